@@ -1,0 +1,205 @@
+-- Demand 3. Assumes nothing.
+use Prim.Native.Nat.{ℕ, zero, suc, _+_, _≤_, _<_}
+use mathlib.Core.Path.{_≡_, refl, ap, _∙_, sym}
+use mathlib.Core.Bool.{Bool, true, false, _&&_, _||_, not, cond, true≢false, false≢true}
+use mathlib.Core.List.{List, [], _∷_, _++_, append-nil}
+use native.Mathlib.Omega.{arith}
+use borrow.Author.Tests.{eqb-true, leb-true, ltb-false, not-false}
+use lib.Dec.{eqb, ltb, leb}
+use lib.ListN.{length, length-append}
+use Rattle.progress.specs.Record.{freshRecord}
+use Rattle.progress.specs.declared.Progress.{Progress}
+use Rattle.rules.specs.Ids.{isEmpty}
+use Rattle.rules.specs.State.{Change, Conf, ConfState, Entry, Kind, State, addLearner, addNode, formed, noConf, removeNode}
+use Rattle.rules.specs.Answers.{Answer, Verdict, _⇒_, _▸_, accepted, each, fault, ok, refuse, refused}
+use Rattle.rules.specs.Check.{inOrder}
+use Rattle.rules.specs.Calls.{enterJoint, enterOf, leaveJoint, leaveOf, listOf, readable, simple, simpleOf}
+use Rattle.rules.specs.Apply.{applied}
+use Rattle.rules.specs.Restore.{Step, all, applyAnswer, ask, enterStep, goOn, guarded, leaveStep, oneByOne, restorable, restore, restoreSteps, run, short, simpleStep, wanted}
+use Rattle.rules.specs.Sequences.{Call, Deed, afterCalls, deeds, deedsOf, deedsOfRun, enterCall, ifOk, leaveCall, perform, restoreCall, simpleCall}
+use Rattle.rules.specs.Boxes.{Box, Event, boxOf, events, named, naming, replay}
+use Rattle.rules.specs.Demands.{Kept}
+use Rattle.rules.proofs.Sets.{and-left, and-right, or-right}
+use Rattle.rules.proofs.Plain.{events-append, replay-append, replay-step, stepBox}
+use Rattle.rules.proofs.Check.{refuse-ok, then-left, then-right}
+use Rattle.rules.proofs.Steps.{Ordered, Stepped, given-ok, given-then}
+use Rattle.rules.proofs.Order.{apply-ok, apply-ordered, asked, in-order, isIOS, ordered-of, plain-step, stepShort, tracked-members}
+
+-- ** Every list of a call can be read
+
+abbrev pub allShort : List Step → Type 0
+allShort [] = Unit {0}
+allShort (p ∷ ps) = stepShort p × allShort ps
+
+pub length-list : (xs ks : List ℕ) → length (listOf xs ks) ≤ length xs
+unfolding listOf
+length-list [] ks = omega arith
+length-list (x ∷ xs) [] = omega arith
+length-list (x ∷ xs) (k ∷ ks) = omega (arith, length-list xs ks)
+
+pub read-short : (xs ks : List ℕ) → readable xs ks ≡ ok → length (listOf xs ks) ≤ 256
+unfolding readable
+read-short xs ks h =
+    let e : not (eqb (length xs) (length ks)) || ltb 256 (length xs) ≡ false =
+    refuse-ok (not (eqb (length xs) (length ks)) || ltb 256 (length xs)) 2 0 (then-left (refuse (not (eqb (length xs) (length ks)) || ltb 256 (length xs)) 2 0) (each (λ k. refuse (ltb 2 k) 3 0) ks) h) in
+    omega (arith, length-list xs ks, ltb-false 256 (length xs) (or-right (not (eqb (length xs) (length ks))) (ltb 256 (length xs)) e))
+
+one-short : (cs : List Change) (ps : List Step) → allShort ps → allShort (oneByOne cs ++ ps)
+unfolding oneByOne
+one-short [] ps h = h
+one-short (c ∷ cs) ps h = (omega arith, one-short cs ps h)
+
+one-only : (cs : List Change) → allShort (oneByOne cs)
+unfolding oneByOne
+one-only [] = tt
+one-only (c ∷ cs) = (omega arith, one-only cs)
+
+pub length-of : (k : Kind) (xs : List ℕ) → length (all k xs) ≡ length xs
+unfolding all
+length-of k [] = refl
+length-of k (x ∷ xs) = ap suc (length-of k xs)
+
+pub restore-short : (s : State) (cs : ConfState) → restorable s cs ≡ ok → allShort (restoreSteps cs)
+unfolding restorable restoreSteps
+restore-short s cs h = go (isEmpty (cs .votersOutgoing))
+  where
+    v : Bool
+    v = short (cs .voters)
+
+    l : Bool
+    l = short (cs .learners)
+
+    o : Bool
+    o = short (cs .votersOutgoing)
+
+    g : Bool
+    g = short (cs .learnersNext)
+
+    fit : v && l && o && g ≡ true
+    fit = not-false (v && l && o && g) (refuse-ok (not (v && l && o && g)) 2 0 (then-right (refuse (not (formed s)) 1 0) (refuse (not (v && l && o && g)) 2 0) h))
+
+    vlo : v && l && o ≡ true
+    vlo = and-left (v && l && o) g fit
+
+    vl : v && l ≡ true
+    vl = and-left (v && l) o vlo
+
+    total : length (all removeNode (cs .votersOutgoing) ++ (all addNode (cs .voters) ++ (all addLearner (cs .learners) ++ all addLearner (cs .learnersNext)))) ≤ 256
+    total =
+        let nv : length (cs .voters) ≤ 64 = leb-true (length (cs .voters)) 64 (and-left v l vl) in
+        let nl : length (cs .learners) ≤ 64 = leb-true (length (cs .learners)) 64 (and-right v l vl) in
+        let no′ : length (cs .votersOutgoing) ≤ 64 = leb-true (length (cs .votersOutgoing)) 64 (and-right (v && l) o vlo) in
+        let ng : length (cs .learnersNext) ≤ 64 = leb-true (length (cs .learnersNext)) 64 (and-right (v && l && o) g fit) in
+        simp (length-append, length-of) (omega arith)
+
+    go : (b : Bool) → allShort (cond b (oneByOne (wanted cs)) (oneByOne (all addNode (cs .votersOutgoing)) ++ (enterStep (cs .autoLeave) (all removeNode (cs .votersOutgoing) ++ wanted cs) ∷ [])))
+    go true = one-only (wanted cs)
+    go false = one-short (all addNode (cs .votersOutgoing)) (enterStep (cs .autoLeave) (all removeNode (cs .votersOutgoing) ++ wanted cs) ∷ []) (total, tt)
+
+-- ** From s to t by the accepted steps ds
+
+-- what holds besides of a state that calls lead to from the fresh one: no box is IOS, and there is a voter or nothing
+pub record Reached (s : State) : Type 0 where
+  pub plain : (x : ℕ) → isIOS (boxOf s x .standing) ≡ false
+  pub voters : isEmpty (s .conf .incoming) ≡ true → s .conf ≡ noConf
+
+pub record Leads (s t : State) (ds : List Deed) : Type 0 where
+  pub ordered : Ordered t
+  pub inflight : t .maxInflight ≡ s .maxInflight
+  pub boxes : (x : ℕ) → boxOf t x ≡ replay (events (s .maxInflight) x ds) (boxOf s x)
+  pub reached : Reached s → Reached t
+
+leads-none : (s : State) → Ordered s → Leads s s []
+unfolding replay events
+leads-none s o = record { ordered = o; inflight = refl; boxes = λ x. refl; reached = λ r. r }
+
+leads-more : (s t u : State) (ds es : List Deed) → Leads s t ds → Leads t u es → Leads s u (ds ++ es)
+leads-more s t u ds es a b =
+    record {
+      ordered = b .ordered;
+      inflight = b .inflight ∙ a .inflight;
+      boxes = λ x. b .boxes x ∙ rw (a .inflight, a .boxes x) (sym (ap (λ (l : List Event). replay l (boxOf s x)) (events-append (s .maxInflight) x ds es) ∙ replay-append (events (s .maxInflight) x ds) (events (s .maxInflight) x es) (boxOf s x)));
+      reached = λ r. b .reached (a .reached r);
+    }
+
+leads-step : (s t : State) (d : Deed) → Ordered t → t .maxInflight ≡ s .maxInflight
+    → ((x : ℕ) → boxOf t x ≡ stepBox (freshRecord (d .next) (s .maxInflight)) x (d .step) (boxOf s x)) → (Reached s → Reached t) → (u : State) (ds : List Deed) → Leads t u ds → Leads s u (d ∷ ds)
+unfolding events
+leads-step s t d o e b k u ds l =
+    leads-more s t u (d ∷ []) ds (record { ordered = o; inflight = e; boxes = λ x. b x ∙ rw append-nil (sym (replay-step (freshRecord (d .next) (s .maxInflight)) x (d .step) (boxOf s x))); reached = k }) l
+
+step-reached : (s : State) (n : ℕ) (p : Step) (c : Conf) (log : List Entry) → Stepped s (freshRecord n (s .maxInflight)) p c log → Reached s → Reached (applied s c log n)
+step-reached s n p c log d k =
+    record {
+      plain = λ x. ap (λ (b : Box). isIOS (b .standing)) (d .boxes x) ∙ plain-step (freshRecord n (s .maxInflight)) x p (boxOf s x) (k .plain x);
+      voters = d .voters (k .voters);
+    }
+
+run-leads : (n : ℕ) (ps : List Step) → allShort ps → (s : State) → Ordered s → Leads s (run n s ps .state) (deedsOfRun n s ps)
+unfolding run deedsOfRun
+run-leads n [] h s o = leads-none s o
+run-leads n (p ∷ ps) h s o = go (ask s p) refl (run-leads n ps (h .1))
+  where
+    go : (a : Answer) → ask s p ≡ a → ((t : State) → Ordered t → Leads t (run n t ps .state) (deedsOfRun n t ps))
+        → Leads s (goOn (applyAnswer s n a) (λ t. run n t ps) .state)
+        (ifOk (applyAnswer s n a .verdict) (record { step = p; next = n } ∷ deedsOfRun n (applyAnswer s n a .state) ps))
+    go (accepted c log) e ih =
+        let d : Stepped s (freshRecord n (s .maxInflight)) p c log = asked s o (freshRecord n (s .maxInflight)) p (h .0) c log e in
+        let o′ : Ordered (applied s c log n) = apply-ordered s o n p c log d in
+        rw (apply-ok s o n p c log d) (leads-step s (applied s c log n) (record { step = p; next = n }) o′ refl (d .boxes) (step-reached s n p c log d) (run n (applied s c log n) ps .state) (deedsOfRun n (applied s c log n) ps) (ih (applied s c log n) o′))
+    go (refused m x) e ih = leads-none s o
+
+answer-leads : (s : State) → Ordered s → (n : ℕ) (p : Step) (a : Answer) → ((c : Conf) (log : List Entry) → a ≡ accepted c log → Stepped s (freshRecord n (s .maxInflight)) p c log)
+    → Leads s (applyAnswer s n a .state) (ifOk (applyAnswer s n a .verdict) (record { step = p; next = n } ∷ []))
+answer-leads s o n p (accepted c log) h =
+    let d : Stepped s (freshRecord n (s .maxInflight)) p c log = h c log refl in
+    let o′ : Ordered (applied s c log n) = apply-ordered s o n p c log d in
+    rw (apply-ok s o n p c log d) (leads-step s (applied s c log n) (record { step = p; next = n }) o′ refl (d .boxes) (step-reached s n p c log d) (applied s c log n) [] (leads-none (applied s c log n) o′))
+answer-leads s o n p (refused m x) h = leads-none s o
+
+pub call-leads : (s : State) → Ordered s → (c : Call) → Leads s (perform s c .state) (deedsOf s c)
+unfolding perform deedsOf simple enterJoint leaveJoint restore ask
+call-leads s o (simpleCall xs ks n) =
+    answer-leads s o n (simpleStep (listOf xs ks)) (refuse (not (formed s)) 1 0 ▸ readable xs ks ⇒ simpleOf s (listOf xs ks)) (λ c log e.
+    asked s o (freshRecord n (s .maxInflight)) (simpleStep (listOf xs ks))
+    (read-short xs ks (then-right (refuse (not (formed s)) 1 0) (readable xs ks) (given-ok c log (refuse (not (formed s)) 1 0 ▸ readable xs ks) (simpleOf s (listOf xs ks)) e))) c log
+    (given-then c log (refuse (not (formed s)) 1 0 ▸ readable xs ks) (simpleOf s (listOf xs ks)) e))
+call-leads s o (enterCall auto xs ks n) =
+    answer-leads s o n (enterStep auto (listOf xs ks)) (refuse (not (formed s)) 1 0 ▸ readable xs ks ⇒ enterOf s auto (listOf xs ks)) (λ c log e.
+    asked s o (freshRecord n (s .maxInflight)) (enterStep auto (listOf xs ks))
+    (read-short xs ks (then-right (refuse (not (formed s)) 1 0) (readable xs ks) (given-ok c log (refuse (not (formed s)) 1 0 ▸ readable xs ks) (enterOf s auto (listOf xs ks)) e))) c log
+    (given-then c log (refuse (not (formed s)) 1 0 ▸ readable xs ks) (enterOf s auto (listOf xs ks)) e))
+call-leads s o (leaveCall n) =
+    answer-leads s o n leaveStep (refuse (not (formed s)) 1 0 ⇒ leaveOf s) (λ c log e.
+    asked s o (freshRecord n (s .maxInflight)) leaveStep tt c log (given-then c log (refuse (not (formed s)) 1 0) (leaveOf s) e))
+call-leads s o (restoreCall cs n) = go (restorable s cs) refl
+  where
+    go : (v : Verdict) → restorable s cs ≡ v → Leads s (guarded v s (run n s (restoreSteps cs)) .state) (ifOk v (deedsOfRun n s (restoreSteps cs)))
+    go ok e = run-leads n (restoreSteps cs) (restore-short s cs e) s o
+    go (fault m x) e = leads-none s o
+
+pub calls-lead : (cs : List Call) (s : State) → Ordered s → Leads s (afterCalls s cs) (deeds s cs)
+unfolding afterCalls deeds
+calls-lead [] s o = leads-none s o
+calls-lead (c ∷ cs) s o =
+    let l : Leads s (perform s c .state) (deedsOf s c) = call-leads s o c in
+    leads-more s (perform s c .state) (afterCalls (perform s c .state) cs) (deedsOf s c) (deeds (perform s c .state) cs) l (calls-lead cs (perform s c .state) (l .ordered))
+
+-- ** Demand 3
+
+pub demand-3 : (s : State) → inOrder s ≡ true → (cs : List Call) → Kept s cs
+demand-3 s h cs =
+    let l : Leads s (afterCalls s cs) (deeds s cs) = calls-lead cs s (ordered-of s h) in
+    record {
+      ordered = in-order (afterCalls s cs) (l .ordered);
+      tracked = tracked-members (afterCalls s cs) (l .ordered);
+      standing = l .ordered .sound .stands;
+      boxes = l .boxes;
+    }
+
+-- in a list, changes that name other boxes are no event of this one
+pub others-alter-nothing : (r : Progress) (x : ℕ) (cs ds : List Change) (c : Change) → eqb (c .id) x ≡ false → naming r x (cs ++ (c ∷ ds)) ≡ naming r x (cs ++ ds)
+unfolding naming
+others-alter-nothing r x [] ds c e = rw e
+others-alter-nothing r x (d ∷ cs) ds c e =
+    ap (λ (l : List Event). cond (eqb (d .id) x && not (eqb x 0)) (named (d .kind) r ∷ l) l) (others-alter-nothing r x cs ds c e)

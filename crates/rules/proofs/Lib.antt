@@ -1,0 +1,15 @@
+pub mod Sets
+pub mod Peers
+pub mod Plain
+pub mod Boxes
+pub mod Changes
+pub mod Check
+pub mod Steps
+pub mod Order
+pub mod Demand3
+pub mod Records
+pub mod Table
+pub mod Thirteen
+pub mod Accept
+pub mod Singles
+pub mod RoundTrip

@@ -1,0 +1,323 @@
+-- Each accepted step is applied, and leaves a state in order. Assumes nothing.
+use Prim.Native.Nat.{ℕ, zero, suc, _+_, _≤_, _<_}
+use mathlib.Core.Path.{_≡_, refl, ap, _∙_, sym, fun-ext}
+use mathlib.Core.Bool.{Bool, true, false, _&&_, _||_, not, cond, true≢false, false≢true}
+use mathlib.Core.List.{List, [], _∷_, _++_}
+use native.Mathlib.Omega.{arith}
+use borrow.Author.Tests.{eq-eqb, ne-eqb, eqb-true, eqb-false, leb-true, le-leb, le-ltb, not-true, not-false}
+use lib.Dec.{eqb, ltb, leb}
+use lib.ListN.{length}
+use Rattle.progress.specs.Record.{freshRecord}
+use Rattle.progress.specs.declared.Progress.{Progress}
+use Rattle.rules.specs.Ids.{ascending, insertAll, memb, sameIds}
+use Rattle.rules.specs.State.{logFormed, Change, Conf, Entry, Kind, Peer, State, addLearner, addNode, confFormed, formed, ids, members, removeNode, setFormed}
+use Rattle.rules.specs.Answers.{Verdict, accepted, fault, ok, passes}
+use Rattle.rules.specs.Check.{check, inOrder, isTracked}
+use Rattle.rules.specs.Table.{I, IO, IOS, L, O, OS, Places, Standing, idle, none, placesOf, standingIn, table}
+use Rattle.rules.specs.Changes.{pendingTracked}
+use Rattle.rules.specs.Apply.{applied, applyConf, enrol}
+use Rattle.rules.specs.Restore.{Step, ask, enterStep, leaveStep, simpleStep}
+use Rattle.rules.specs.Boxes.{Box, boxOf, changeBox, enterBox, enterStanding, leaveStanding}
+use Rattle.rules.proofs.Sets.{and-left, and-right, ascending-all, ascending-ext, ids-same, length-part, memb-all, same-ids}
+use Rattle.rules.proofs.Plain.{changesBox, stepBox}
+use Rattle.rules.proofs.Boxes.{Sound, spot}
+use Rattle.rules.proofs.Changes.{ids-enrol, last-says}
+use Rattle.rules.proofs.Check.{Passes, passes-of, stands-of}
+use Rattle.rules.proofs.Steps.{Checked, Ordered, Stepped, enter-stepped, isIdle, leave-stepped, ordered-checked, simple-stepped}
+
+-- ** No step makes a box idle or IOS, and none names 0
+
+-- a test of standings that fails after every change, and is kept by entering and leaving
+module _ (P : Standing → Bool) (rows : (st : Standing) (k : Kind) → P (table st k .0) ≡ false)
+    (enters : (st : Standing) → P st ≡ false → P (enterStanding st) ≡ false) (leaves : (st : Standing) → P st ≡ false → P (leaveStanding st) ≡ false) where
+  never-changes : (r : Progress) (x : ℕ) (cs : List Change) (b : Box) → P (b .standing) ≡ false → P (changesBox r x cs b .standing) ≡ false
+  unfolding changesBox
+  never-changes r x [] b h = h
+  never-changes r x (c ∷ cs) b h = never-changes r x cs (cond (eqb (c .id) x && not (eqb x 0)) (changeBox r (c .kind) b) b) (go (eqb (c .id) x && not (eqb x 0)))
+    where
+      go : (t : Bool) → P (cond t (changeBox r (c .kind) b) b .standing) ≡ false
+      go true = rows (b .standing) (c .kind)
+      go false = h
+
+  never-step : (r : Progress) (x : ℕ) (p : Step) (b : Box) → P (b .standing) ≡ false → P (stepBox r x p b .standing) ≡ false
+  never-step r x (simpleStep cs) b h = never-changes r x cs b h
+  never-step r x (enterStep a cs) b h = never-changes r x cs (enterBox b) (enters (b .standing) h)
+  never-step r x leaveStep b h = leaves (b .standing) h
+
+abbrev pub isIOS : Standing → Bool
+isIOS none = false
+isIOS idle = false
+isIOS I = false
+isIOS L = false
+isIOS O = false
+isIOS IO = false
+isIOS OS = false
+isIOS IOS = true
+
+busy-row : (st : Standing) (k : Kind) → isIdle (table st k .0) ≡ false
+unfolding table
+busy-row none addNode = refl
+busy-row none addLearner = refl
+busy-row none removeNode = refl
+busy-row idle addNode = refl
+busy-row idle addLearner = refl
+busy-row idle removeNode = refl
+busy-row I addNode = refl
+busy-row I addLearner = refl
+busy-row I removeNode = refl
+busy-row L addNode = refl
+busy-row L addLearner = refl
+busy-row L removeNode = refl
+busy-row O addNode = refl
+busy-row O addLearner = refl
+busy-row O removeNode = refl
+busy-row IO addNode = refl
+busy-row IO addLearner = refl
+busy-row IO removeNode = refl
+busy-row OS addNode = refl
+busy-row OS addLearner = refl
+busy-row OS removeNode = refl
+busy-row IOS addNode = refl
+busy-row IOS addLearner = refl
+busy-row IOS removeNode = refl
+
+busy-enter : (st : Standing) → isIdle st ≡ false → isIdle (enterStanding st) ≡ false
+busy-enter none h = refl
+busy-enter idle h = h
+busy-enter I h = refl
+busy-enter L h = refl
+busy-enter O h = refl
+busy-enter IO h = refl
+busy-enter OS h = refl
+busy-enter IOS h = refl
+
+busy-leave : (st : Standing) → isIdle st ≡ false → isIdle (leaveStanding st) ≡ false
+busy-leave none h = refl
+busy-leave idle h = h
+busy-leave I h = refl
+busy-leave L h = refl
+busy-leave O h = refl
+busy-leave IO h = refl
+busy-leave OS h = refl
+busy-leave IOS h = refl
+
+pub busy-step : (r : Progress) (x : ℕ) (p : Step) (b : Box) → isIdle (b .standing) ≡ false → isIdle (stepBox r x p b .standing) ≡ false
+busy-step = never-step isIdle busy-row busy-enter busy-leave
+
+plain-row : (st : Standing) (k : Kind) → isIOS (table st k .0) ≡ false
+unfolding table
+plain-row none addNode = refl
+plain-row none addLearner = refl
+plain-row none removeNode = refl
+plain-row idle addNode = refl
+plain-row idle addLearner = refl
+plain-row idle removeNode = refl
+plain-row I addNode = refl
+plain-row I addLearner = refl
+plain-row I removeNode = refl
+plain-row L addNode = refl
+plain-row L addLearner = refl
+plain-row L removeNode = refl
+plain-row O addNode = refl
+plain-row O addLearner = refl
+plain-row O removeNode = refl
+plain-row IO addNode = refl
+plain-row IO addLearner = refl
+plain-row IO removeNode = refl
+plain-row OS addNode = refl
+plain-row OS addLearner = refl
+plain-row OS removeNode = refl
+plain-row IOS addNode = refl
+plain-row IOS addLearner = refl
+plain-row IOS removeNode = refl
+
+plain-enter : (st : Standing) → isIOS st ≡ false → isIOS (enterStanding st) ≡ false
+plain-enter none h = refl
+plain-enter idle h = refl
+plain-enter I h = refl
+plain-enter L h = refl
+plain-enter O h = refl
+plain-enter IO h = refl
+plain-enter OS h = refl
+plain-enter IOS h = h
+
+plain-leave : (st : Standing) → isIOS st ≡ false → isIOS (leaveStanding st) ≡ false
+plain-leave none h = refl
+plain-leave idle h = refl
+plain-leave I h = refl
+plain-leave L h = refl
+plain-leave O h = refl
+plain-leave IO h = refl
+plain-leave OS h = refl
+plain-leave IOS h = h
+
+pub plain-step : (r : Progress) (x : ℕ) (p : Step) (b : Box) → isIOS (b .standing) ≡ false → isIOS (stepBox r x p b .standing) ≡ false
+plain-step = never-step isIOS plain-row plain-enter plain-leave
+
+pub zero-changes : (r : Progress) (cs : List Change) (b : Box) → changesBox r 0 cs b ≡ b
+unfolding changesBox
+zero-changes r [] b = refl
+zero-changes r (c ∷ cs) b = ap (changesBox r 0 cs) (go (eqb (c .id) 0)) ∙ zero-changes r cs b
+  where
+    go : (t : Bool) → cond (t && false) (changeBox r (c .kind) b) b ≡ b
+    go true = refl
+    go false = refl
+
+zero-step : (r : Progress) (p : Step) (b : Box) → b .standing ≡ none → stepBox r 0 p b .standing ≡ none
+zero-step r (simpleStep cs) b h = ap (λ (a : Box). a .standing) (zero-changes r cs b) ∙ h
+zero-step r (enterStep a cs) b h = ap (λ (a : Box). a .standing) (zero-changes r cs (enterBox b)) ∙ ap enterStanding h
+zero-step r leaveStep b h = ap leaveStanding h
+
+-- ** Well formed
+
+pub conf-formed : (c : Conf) (ps : List Peer) → Sound c ps → Passes (λ y. memb y (ids ps)) c → length (ids ps) ≤ 64 → confFormed c ≡ true
+unfolding confFormed
+conf-formed c ps s p h =
+    let i : length (c .incoming) ≤ 64 = omega (arith, length-part (c .incoming) (ids ps) (s .incoming↑) (s .ids↑) (p .incoming-tracked)) in
+    let o : length (c .outgoing) ≤ 64 = omega (arith, length-part (c .outgoing) (ids ps) (s .outgoing↑) (s .ids↑) (p .outgoing-tracked)) in
+    let l : length (c .learners) ≤ 64 = omega (arith, length-part (c .learners) (ids ps) (s .learners↑) (s .ids↑) (p .learner-tracked)) in
+    let g : length (c .staged) ≤ 64 = omega (arith, length-part (c .staged) (ids ps) (s .staged↑) (s .ids↑) (p .staged-tracked)) in
+    rw (s .incoming↑, s .outgoing↑, s .learners↑, s .staged↑, le-leb (length (c .incoming)) 64 i, le-leb (length (c .outgoing)) 64 o, le-leb (length (c .learners)) 64 l, le-leb (length (c .staged)) 64 g)
+
+pub formed-of : (s : State) → Ordered s → formed s ≡ true
+unfolding formed
+formed-of s o = rw (conf-formed (s .conf) (s .peers) (o .sound) (passes-of (isTracked s) (s .conf) (o .checked)) (o .few), o .sound .ids↑, le-leb (length (ids (s .peers))) 64 (o .few))
+
+-- ** An accepted answer is applied
+
+module _ (s : State) (o : Ordered s) (n : ℕ) (p : Step) (c : Conf) (log : List Entry) (d : Stepped s (freshRecord n (s .maxInflight)) p c log) where
+  abbrev r : Progress
+  r = freshRecord n (s .maxInflight)
+
+  same-tracked : pendingTracked (ids (s .peers)) log ≡ (λ y. memb y (ids (enrol r log (s .peers))))
+  same-tracked = fun-ext (λ y. last-says y log (ids (s .peers)) (o .sound .ids↑) ∙ ap (memb y) (sym (ids-enrol r log (s .peers))))
+
+  checked-now : check (λ y. memb y (ids (enrol r log (s .peers)))) c ≡ ok
+  checked-now = rw (← same-tracked) (d .checked)
+
+  few-now : length (ids (enrol r log (s .peers))) ≤ 64
+  few-now = rw (ids-enrol r log (s .peers)) (d .few)
+
+  pub apply-ok : applyConf s c log n ≡ record { verdict = ok; state = applied s c log n }
+  unfolding applyConf logFormed
+  apply-ok =
+      rw (formed-of s o, conf-formed c (enrol r log (s .peers)) (d .sound) (passes-of (λ y. memb y (ids (enrol r log (s .peers)))) c checked-now) few-now, le-leb (length log) 256 (d .short), d .fits)
+
+  pub apply-ordered : Ordered (applied s c log n)
+  apply-ordered =
+      record {
+        sound = d .sound;
+        few = few-now;
+        checked = checked-now;
+        zero = ap (λ (b : Box). b .standing) (d .boxes 0) ∙ zero-step r p (boxOf s 0) (o .zero);
+        busy = λ y. ap (λ (b : Box). isIdle (b .standing)) (d .boxes y) ∙ busy-step r y p (boxOf s y) (o .busy y);
+      }
+
+-- a step's list can be read
+abbrev pub stepShort : Step → Type 0
+stepShort (simpleStep cs) = length cs ≤ 256
+stepShort (enterStep a cs) = length cs ≤ 256
+stepShort leaveStep = Unit {0}
+
+pub asked-checked : (s : State) → Checked s → (r : Progress) (p : Step) → stepShort p → (c : Conf) (log : List Entry) → ask s p ≡ accepted c log → Stepped s r p c log
+unfolding ask
+asked-checked s o r (simpleStep cs) h c log e = simple-stepped s o r cs h c log e
+asked-checked s o r (enterStep a cs) h c log e = enter-stepped s o r cs h a c log e
+asked-checked s o r leaveStep h c log e = leave-stepped s o r c log e
+
+pub asked : (s : State) → Ordered s → (r : Progress) (p : Step) → stepShort p → (c : Conf) (log : List Entry) → ask s p ≡ accepted c log → Stepped s r p c log
+asked s o = asked-checked s (ordered-checked s o)
+
+-- ** `inOrder`, by parts
+
+passes-ok : (v : Verdict) → passes v ≡ true → v ≡ ok
+passes-ok ok h = refl
+passes-ok (fault n x) h = absurd (false≢true h)
+
+-- in at least one set
+abbrev pub isMember : Places → Bool
+isMember p = p .incoming || (p .outgoing || (p .learner || p .staged))
+
+pub memb-members : (y : ℕ) (c : Conf) → memb y (members c) ≡ memb y (c .incoming) || (memb y (c .outgoing) || (memb y (c .learners) || memb y (c .staged)))
+memb-members y c =
+    rw (memb-all y (c .incoming) (insertAll (c .outgoing) (insertAll (c .learners) (c .staged))), memb-all y (c .outgoing) (insertAll (c .learners) (c .staged)), memb-all y (c .learners) (c .staged))
+
+member-places : (st : Standing) → isIdle st ≡ false → placesOf st .tracked ≡ isMember (placesOf st)
+member-places none h = refl
+member-places idle h = absurd (true≢false h)
+member-places I h = refl
+member-places L h = refl
+member-places O h = refl
+member-places IO h = refl
+member-places OS h = refl
+member-places IOS h = refl
+
+places-member : (st : Standing) → placesOf st .tracked ≡ isMember (placesOf st) → isIdle st ≡ false
+places-member none h = refl
+places-member idle h = h
+places-member I h = refl
+places-member L h = refl
+places-member O h = refl
+places-member IO h = refl
+places-member OS h = refl
+places-member IOS h = refl
+
+-- the tracked are exactly the members
+pub tracked-members : (s : State) → Ordered s → (y : ℕ) → memb y (ids (s .peers)) ≡ memb y (members (s .conf))
+tracked-members s o y = go (standingIn (spot (s .conf) (s .peers) y)) (o .sound .stands y) (o .busy y) ∙ sym (memb-members y (s .conf))
+  where
+    go : (st : Standing) → spot (s .conf) (s .peers) y ≡ placesOf st → isIdle st ≡ false → memb y (ids (s .peers)) ≡ isMember (spot (s .conf) (s .peers) y)
+    go st q b = ap (λ (p : Places). p .tracked) q ∙ member-places st b ∙ sym (ap isMember q)
+
+pub ordered-of : (s : State) → inOrder s ≡ true → Ordered s
+unfolding inOrder formed confFormed standingIn
+ordered-of s h =
+    let c : Conf = s .conf in
+    let xs : List ℕ = ids (s .peers) in
+    let nowhere : Bool = not (memb 0 xs) && not (memb 0 (members c)) in
+    let h3 : formed s && passes (check (isTracked s) c) && nowhere ≡ true = and-left (formed s && passes (check (isTracked s) c) && nowhere) (sameIds xs (members c)) h in
+    let h2 : formed s && passes (check (isTracked s) c) ≡ true = and-left (formed s && passes (check (isTracked s) c)) nowhere h3 in
+    let f : formed s ≡ true = and-left (formed s) (passes (check (isTracked s) c)) h2 in
+    let k : check (isTracked s) c ≡ ok = passes-ok (check (isTracked s) c) (and-right (formed s) (passes (check (isTracked s) c)) h2) in
+    let z : memb 0 xs ≡ false = not-true (memb 0 xs) (and-left (not (memb 0 xs)) (not (memb 0 (members c))) (and-right (formed s && passes (check (isTracked s) c)) nowhere h3)) in
+    let e : xs ≡ members c = same-ids xs (members c) (and-right (formed s && passes (check (isTracked s) c) && nowhere) (sameIds xs (members c)) h) in
+    let f4 : confFormed c ≡ true = and-left (confFormed c) (setFormed xs) f in
+    let fx : setFormed xs ≡ true = and-right (confFormed c) (setFormed xs) f in
+    let f3 : setFormed (c .incoming) && setFormed (c .outgoing) && setFormed (c .learners) ≡ true = and-left (setFormed (c .incoming) && setFormed (c .outgoing) && setFormed (c .learners)) (setFormed (c .staged)) f4 in
+    let f2 : setFormed (c .incoming) && setFormed (c .outgoing) ≡ true = and-left (setFormed (c .incoming) && setFormed (c .outgoing)) (setFormed (c .learners)) f3 in
+    let st : (y : ℕ) → spot c (s .peers) y ≡ placesOf (standingIn (spot c (s .peers) y)) = stands-of (isTracked s) c (passes-of (isTracked s) c k) in
+    record {
+      sound = record {
+        incoming↑ = up (c .incoming) (and-left (setFormed (c .incoming)) (setFormed (c .outgoing)) f2);
+        outgoing↑ = up (c .outgoing) (and-right (setFormed (c .incoming)) (setFormed (c .outgoing)) f2);
+        learners↑ = up (c .learners) (and-right (setFormed (c .incoming) && setFormed (c .outgoing)) (setFormed (c .learners)) f3);
+        staged↑ = up (c .staged) (and-right (setFormed (c .incoming) && setFormed (c .outgoing) && setFormed (c .learners)) (setFormed (c .staged)) f4);
+        ids↑ = up xs fx;
+        stands = st;
+      };
+      few = leb-true (length xs) 64 (and-right (ascending xs) (leb (length xs) 64) fx);
+      checked = k;
+      zero = rw z;
+      busy = λ y. busy y (standingIn (spot c (s .peers) y)) (st y) (ap (memb y) e ∙ memb-members y c);
+    }
+  where
+    up : (xs : List ℕ) → setFormed xs ≡ true → ascending xs ≡ true
+    up xs h = and-left (ascending xs) (leb (length xs) 64) h
+
+    busy : (y : ℕ) (st : Standing) → spot (s .conf) (s .peers) y ≡ placesOf st → memb y (ids (s .peers)) ≡ isMember (spot (s .conf) (s .peers) y) → isIdle st ≡ false
+    busy y st q e = places-member st (sym (ap (λ (p : Places). p .tracked) q) ∙ e ∙ ap isMember q)
+
+pub in-order : (s : State) → Ordered s → inOrder s ≡ true
+unfolding inOrder
+in-order s o =
+    rw (formed-of s o, o .checked, ← same, zero-out) (ids-same (ids (s .peers)))
+  where
+    zero-out : memb 0 (ids (s .peers)) ≡ false
+    zero-out = ap (λ (p : Places). p .tracked) (o .sound .stands 0) ∙ ap (λ (t : Standing). placesOf t .tracked) (o .zero)
+
+    same : ids (s .peers) ≡ members (s .conf)
+    same =
+        ascending-ext (ids (s .peers)) (members (s .conf)) (o .sound .ids↑)
+        (ascending-all (s .conf .incoming) (insertAll (s .conf .outgoing) (insertAll (s .conf .learners) (s .conf .staged)))
+        (ascending-all (s .conf .outgoing) (insertAll (s .conf .learners) (s .conf .staged)) (ascending-all (s .conf .learners) (s .conf .staged) (o .sound .staged↑))))
+        (tracked-members s o)

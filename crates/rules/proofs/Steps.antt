@@ -1,0 +1,388 @@
+-- What each accepted step does to each box. Assumes nothing.
+use Prim.Native.Nat.{ℕ, zero, suc, _+_, _≤_, _<_}
+use mathlib.Core.Path.{_≡_, refl, ap, _∙_, sym, fun-ext}
+use mathlib.Core.Bool.{Bool, true, false, _&&_, _||_, not, cond, true≢false, false≢true}
+use mathlib.Core.List.{List, [], _∷_, _++_}
+use native.Mathlib.Omega.{arith}
+use borrow.Author.Tests.{eq-eqb, ne-eqb, eqb-true, eqb-false, leb-true, le-leb, le-ltb, not-true, not-false}
+use lib.Dec.{eqb, ltb, leb}
+use lib.ListN.{length}
+use Rattle.progress.specs.declared.Progress.{Progress}
+use Rattle.rules.specs.Ids.{ascending, insertAll, isEmpty, memb, minus, removeId}
+use Rattle.rules.specs.State.{Change, Conf, Entry, Peer, State, ids, noConf}
+use Rattle.rules.specs.Answers.{Answer, Verdict, _⇒_, _▸_, accepted, fault, ok, refuse}
+use Rattle.rules.specs.Check.{check, isTracked, joint}
+use Rattle.rules.specs.Table.{I, IO, IOS, L, O, OS, Places, Standing, idle, none, places, placesOf, standingIn}
+use Rattle.rules.specs.Changes.{Done, Work, changes, done, full, pending, pendingTracked}
+use Rattle.rules.specs.Calls.{afterwards, difference, enterOf, entering, gone, leaveOf, leaving, removals, simpleOf, start, withAuto}
+use Rattle.rules.specs.Apply.{enrol, room, untrack}
+use Rattle.rules.specs.Restore.{Step, enterStep, leaveStep, simpleStep}
+use Rattle.rules.specs.Boxes.{Found, absent, enterBox, enterStanding, leaveBox, leaveRecord, leaveStanding, recordOf}
+use Rattle.rules.proofs.Sets.{ascending-all, ascending-remove, empty-none, length-part, length-remove-le, memb-all, memb-minus, memb-remove}
+use Rattle.rules.proofs.Peers.{ids-untrack, record-untrack}
+use Rattle.rules.proofs.Plain.{changesBox, stepBox}
+use Rattle.rules.proofs.Boxes.{Sound, boxAt, spot, standing-places}
+use Rattle.rules.proofs.Changes.{After, Fine, changes-done, now}
+use Rattle.rules.proofs.Check.{passes-of, refuse-ok, then-left, then-right}
+
+abbrev pub isIdle : Standing → Bool
+isIdle none = false
+isIdle idle = true
+isIdle I = false
+isIdle L = false
+isIdle O = false
+isIdle IO = false
+isIdle OS = false
+isIdle IOS = false
+
+-- what `inOrder` says, by parts
+pub record Ordered (s : State) : Type 0 where
+  pub sound : Sound (s .conf) (s .peers)
+  pub few : length (ids (s .peers)) ≤ 64
+  pub checked : check (isTracked s) (s .conf) ≡ ok
+  pub zero : standingIn (spot (s .conf) (s .peers) 0) ≡ none
+  pub busy : (y : ℕ) → isIdle (standingIn (spot (s .conf) (s .peers) y)) ≡ false
+
+-- what the check alone gives of a well-formed state, in order or not
+pub record Checked (s : State) : Type 0 where
+  pub sound : Sound (s .conf) (s .peers)
+  pub few : length (ids (s .peers)) ≤ 64
+  pub checked : check (isTracked s) (s .conf) ≡ ok
+
+pub ordered-checked : (s : State) → Ordered s → Checked s
+ordered-checked s o = record { sound = o .sound; few = o .few; checked = o .checked }
+
+-- what an accepted step answers
+pub record Stepped (s : State) (r : Progress) (p : Step) (c : Conf) (log : List Entry) : Type 0 where
+  pub sound : Sound c (enrol r log (s .peers))
+  pub fits : room log (ids (s .peers)) ≡ ok
+  pub few : length (pending log (ids (s .peers))) ≤ 64
+  pub short : length log ≤ 256
+  pub checked : check (pendingTracked (ids (s .peers)) log) c ≡ ok
+  pub boxes : (y : ℕ) → boxAt c (enrol r log (s .peers)) y ≡ stepBox r y p (boxAt (s .conf) (s .peers) y)
+  pub voters : (isEmpty (s .conf .incoming) ≡ true → s .conf ≡ noConf) → isEmpty (c .incoming) ≡ true → c ≡ noConf
+
+-- ** Reading an accepted answer
+
+module _ (c : Conf) (log : List Entry) where
+  pub given-ok : (v : Verdict) (a : Answer) → v ⇒ a ≡ accepted c log → v ≡ ok
+  given-ok ok a h = refl
+  given-ok (fault n x) a h = absurd (let z : _≡_ {A = ℕ} 0 1 = cc in omega arith)
+
+  pub given-then : (v : Verdict) (a : Answer) → v ⇒ a ≡ accepted c log → a ≡ accepted c log
+  given-then ok a h = h
+  given-then (fault n x) a h = absurd (let z : _≡_ {A = ℕ} 0 1 = cc in omega arith)
+
+  worked : (d : Done) (k : Work → Answer) → afterwards d k ≡ accepted c log → (w : Work) × (d ≡ done w) × (k w ≡ accepted c log)
+  worked (done w) k h = (w, refl, h)
+  worked (full x) k h = absurd (let z : _≡_ {A = ℕ} 0 1 = cc in omega arith)
+
+pub no-joint : (c : Conf) → joint c ≡ false → (x : ℕ) → memb x (c .outgoing) ≡ false
+no-joint c h x = empty-none (c .outgoing) (not-false (isEmpty (c .outgoing)) h) x
+
+-- ** Entering
+
+enter-places : (st : Standing) → placesOf st .outgoing ≡ false
+    → places (placesOf st .tracked) (placesOf st .incoming) (placesOf st .incoming) (placesOf st .learner) (placesOf st .staged) ≡ placesOf (enterStanding st)
+enter-places none h = refl
+enter-places idle h = refl
+enter-places I h = refl
+enter-places L h = refl
+enter-places O h = absurd (true≢false h)
+enter-places IO h = absurd (true≢false h)
+enter-places OS h = absurd (true≢false h)
+enter-places IOS h = absurd (true≢false h)
+
+module _ (c : Conf) (ps : List Peer) (s : Sound c ps) (h : joint c ≡ false) where
+  enter-spot : (y : ℕ) (st : Standing) → spot c ps y ≡ placesOf st → spot (entering c) ps y ≡ placesOf (enterStanding st)
+  enter-spot y st q =
+      rw (ap (λ (p : Places). p .tracked) q, ap (λ (p : Places). p .incoming) q, ap (λ (p : Places). p .learner) q, ap (λ (p : Places). p .staged) q)
+      (enter-places st (sym (ap (λ (p : Places). p .outgoing) q) ∙ no-joint c h y))
+
+  pub enter-box : (y : ℕ) → boxAt (entering c) ps y ≡ enterBox (boxAt c ps y)
+  enter-box y = rw (enter-spot y (standingIn (spot c ps y)) (s .stands y), standing-places (enterStanding (standingIn (spot c ps y))))
+
+  pub enter-sound : Sound (entering c) ps
+  enter-sound =
+      record {
+        incoming↑ = s .incoming↑;
+        outgoing↑ = s .incoming↑;
+        learners↑ = s .learners↑;
+        staged↑ = s .staged↑;
+        ids↑ = s .ids↑;
+        stands = λ y. rw (enter-spot y (standingIn (spot c ps y)) (s .stands y), standing-places (enterStanding (standingIn (spot c ps y))));
+      }
+
+pub auto-sound : (a : Bool) (c : Conf) (ps : List Peer) → Sound c ps → Sound (withAuto a c) ps
+auto-sound a c ps s =
+    record {
+      incoming↑ = s .incoming↑;
+      outgoing↑ = s .outgoing↑;
+      learners↑ = s .learners↑;
+      staged↑ = s .staged↑;
+      ids↑ = s .ids↑;
+      stands = s .stands;
+    }
+
+-- ** Leaving
+
+and-not : (e t m : Bool) → (not e && t) && not m ≡ t && not (e || m)
+and-not true true m = refl
+and-not true false m = refl
+and-not false t m = refl
+
+memb-removals : (r : Progress) (xs : List ℕ) (ps : List Peer) (y : ℕ) → ascending (ids ps) ≡ true → memb y (ids (enrol r (removals xs) ps)) ≡ memb y (ids ps) && not (memb y xs)
+unfolding removals enrol memb
+memb-removals r [] ps y a = go (memb y (ids ps))
+  where
+    go : (b : Bool) → b ≡ b && true
+    go true = refl
+    go false = refl
+memb-removals r (x ∷ xs) ps y a =
+    memb-removals r xs (untrack x ps) y (rw (ids-untrack x ps) (ascending-remove x (ids ps) a))
+    ∙ rw (ids-untrack x ps, memb-remove x y (ids ps) a) (and-not (eqb x y) (memb y (ids ps)) (memb y xs))
+
+ascending-removals : (r : Progress) (xs : List ℕ) (ps : List Peer) → ascending (ids ps) ≡ true → ascending (ids (enrol r (removals xs) ps)) ≡ true
+unfolding removals enrol
+ascending-removals r [] ps a = a
+ascending-removals r (x ∷ xs) ps a = ascending-removals r xs (untrack x ps) (rw (ids-untrack x ps) (ascending-remove x (ids ps) a))
+
+record-removals : (r : Progress) (xs : List ℕ) (ps : List Peer) (y : ℕ) → ascending (ids ps) ≡ true → recordOf y (enrol r (removals xs) ps) ≡ cond (memb y xs) absent (recordOf y ps)
+unfolding removals enrol memb
+record-removals r [] ps y a = refl
+record-removals r (x ∷ xs) ps y a =
+    record-removals r xs (untrack x ps) y (rw (ids-untrack x ps) (ascending-remove x (ids ps) a))
+    ∙ rw (record-untrack x y ps a) (go (eqb x y) (memb y xs))
+  where
+    go : (e m : Bool) → cond m absent (cond e absent (recordOf y ps)) ≡ cond (e || m) absent (recordOf y ps)
+    go true true = refl
+    go true false = refl
+    go false m = refl
+
+room-removals : (xs base : List ℕ) → room (removals xs) base ≡ ok
+unfolding removals room
+room-removals [] base = refl
+room-removals (x ∷ xs) base = room-removals xs (removeId x base)
+
+few-removals : (xs base : List ℕ) → length (pending (removals xs) base) ≤ length base
+unfolding removals pending
+few-removals [] base = omega arith
+few-removals (x ∷ xs) base = omega (arith, few-removals xs (removeId x base), length-remove-le x base)
+
+pub length-removals : (xs : List ℕ) → length (removals xs) ≡ length xs
+unfolding removals
+length-removals [] = refl
+length-removals (x ∷ xs) = ap suc (length-removals xs)
+
+pub length-minus : (xs ys : List ℕ) → length (minus xs ys) ≤ length xs
+unfolding minus
+length-minus [] ys = omega arith
+length-minus (x ∷ xs) ys = go (memb x ys) (length-minus xs ys)
+  where
+    go : (b : Bool) → length (minus xs ys) ≤ length xs → length (cond b (minus xs ys) (x ∷ minus xs ys)) ≤ suc (length xs)
+    go true h = omega arith
+    go false h = omega arith
+
+-- what becomes of the places: t is tracked, g is gone
+abbrev isGone : Places → Bool
+isGone p = p .outgoing && not (p .incoming) && not (p .staged || p .learner)
+
+leave-places : (st : Standing) → ((placesOf st .staged || placesOf st .learner) ≡ true → placesOf st .incoming ≡ false)
+    → places (placesOf st .tracked && not (isGone (placesOf st))) (placesOf st .incoming) false (placesOf st .staged || placesOf st .learner) false ≡ placesOf (leaveStanding st)
+leave-places none h = refl
+leave-places idle h = refl
+leave-places I h = refl
+leave-places L h = refl
+leave-places O h = refl
+leave-places IO h = refl
+leave-places OS h = refl
+leave-places IOS h = absurd (true≢false (h refl))
+
+leave-record : (st : Standing) (f : Found) → ((placesOf st .staged || placesOf st .learner) ≡ true → placesOf st .incoming ≡ false)
+    → cond (isGone (placesOf st)) absent f ≡ leaveRecord st f
+leave-record none f h = refl
+leave-record idle f h = refl
+leave-record I f h = refl
+leave-record L f h = refl
+leave-record O f h = refl
+leave-record IO f h = refl
+leave-record OS f h = refl
+leave-record IOS f h = absurd (true≢false (h refl))
+
+pub memb-gone : (c : Conf) (y : ℕ) → memb y (gone c) ≡ memb y (c .outgoing) && not (memb y (c .incoming)) && not (memb y (c .staged) || memb y (c .learners))
+memb-gone c y = rw (memb-minus y (minus (c .outgoing) (c .incoming)) (insertAll (c .staged) (c .learners)), memb-minus y (c .outgoing) (c .incoming), memb-all y (c .staged) (c .learners))
+
+module _ (r : Progress) (c : Conf) (ps : List Peer) (s : Sound c ps) (h : (x : ℕ) → memb x (leaving c .learners) ≡ true → memb x (c .incoming) ≡ false) where
+  abbrev ps′ : List Peer
+  ps′ = enrol r (removals (gone c)) ps
+
+  apart : (y : ℕ) (st : Standing) → spot c ps y ≡ placesOf st → (placesOf st .staged || placesOf st .learner) ≡ true → placesOf st .incoming ≡ false
+  apart y st q m =
+      sym (ap (λ (p : Places). p .incoming) q) ∙ h y (memb-all y (c .staged) (c .learners) ∙ rw (ap (λ (p : Places). p .staged) q, ap (λ (p : Places). p .learner) q) m)
+
+  pub leave-spot : (y : ℕ) (st : Standing) → spot c ps y ≡ placesOf st → spot (leaving c) ps′ y ≡ placesOf (leaveStanding st)
+  unfolding memb
+  leave-spot y st q =
+      rw (
+        memb-removals r (gone c) ps y (s .ids↑),
+        memb-gone c y,
+        memb-all y (c .staged) (c .learners),
+        ap (λ (p : Places). p .tracked) q,
+        ap (λ (p : Places). p .incoming) q,
+        ap (λ (p : Places). p .outgoing) q,
+        ap (λ (p : Places). p .learner) q,
+        ap (λ (p : Places). p .staged) q,
+      )
+      (leave-places st (apart y st q))
+
+  leave-rec : (y : ℕ) (st : Standing) → spot c ps y ≡ placesOf st → recordOf y ps′ ≡ leaveRecord st (recordOf y ps)
+  leave-rec y st q =
+      rw (
+        record-removals r (gone c) ps y (s .ids↑),
+        memb-gone c y,
+        ap (λ (p : Places). p .incoming) q,
+        ap (λ (p : Places). p .outgoing) q,
+        ap (λ (p : Places). p .learner) q,
+        ap (λ (p : Places). p .staged) q,
+      )
+      (leave-record st (recordOf y ps) (apart y st q))
+
+  pub leave-box : (y : ℕ) → boxAt (leaving c) ps′ y ≡ leaveBox (boxAt c ps y)
+  leave-box y =
+      rw (leave-spot y (standingIn (spot c ps y)) (s .stands y), standing-places (leaveStanding (standingIn (spot c ps y))), leave-rec y (standingIn (spot c ps y)) (s .stands y))
+
+  pub leave-sound : Sound (leaving c) ps′
+  unfolding ascending
+  leave-sound =
+      record {
+        incoming↑ = s .incoming↑;
+        outgoing↑ = refl;
+        learners↑ = ascending-all (c .staged) (c .learners) (s .learners↑);
+        staged↑ = refl;
+        ids↑ = ascending-removals r (gone c) ps (s .ids↑);
+        stands = λ y. rw (leave-spot y (standingIn (spot c ps y)) (s .stands y), standing-places (leaveStanding (standingIn (spot c ps y))));
+      }
+
+-- ** The three calls
+
+module _ (s : State) (o : Checked s) (r : Progress) where
+  module _ (cs : List Change) (short : length cs ≤ 256) where
+    simple-from : (w : Work) → After r (s .peers) (o .sound .ids↑) cs (start (s .conf)) w → check (pendingTracked (ids (s .peers)) (w .log)) (w .conf) ≡ ok → isEmpty (w .conf .incoming) ≡ false → Stepped s r (simpleStep cs) (w .conf) (w .log)
+    unfolding enrol
+    simple-from w a k v =
+        record {
+          sound = a .fine .sound;
+          fits = a .fine .fits;
+          few = a .fine .few;
+          short = omega (arith, a .short);
+          checked = k;
+          boxes = a .boxes;
+          voters = λ f e. absurd (true≢false (sym e ∙ v));
+        }
+
+    pub simple-stepped : (c : Conf) (log : List Entry) → simpleOf s cs ≡ accepted c log → Stepped s r (simpleStep cs) c log
+    unfolding simpleOf enrol pending room
+    simple-stepped c log h = go (worked c log (changes (ids (s .peers)) cs (start (s .conf))) rest (given-then c log pre (afterwards (changes (ids (s .peers)) cs (start (s .conf))) rest) h))
+      where
+        pre : Verdict
+        pre = refuse (joint (s .conf)) 6 0 ▸ check (isTracked s) (s .conf)
+
+        tests : Work → Verdict
+        tests w = refuse (isEmpty (w .conf .incoming)) 17 0 ▸ refuse (leb 2 (difference (w .conf .incoming) (s .conf .incoming))) 18 0 ▸ check (pendingTracked (ids (s .peers)) (w .log)) (w .conf)
+
+        rest : Work → Answer
+        rest w = tests w ⇒ accepted (w .conf) (w .log)
+
+        go : (w : Work) × (changes (ids (s .peers)) cs (start (s .conf)) ≡ done w) × (rest w ≡ accepted c log) → Stepped s r (simpleStep cs) c log
+        go t =
+            let w : Work = t .0 in
+            let e : accepted (w .conf) (w .log) ≡ accepted c log = given-then c log (tests w) (accepted (w .conf) (w .log)) (t .2) in
+            let k : check (pendingTracked (ids (s .peers)) (w .log)) (w .conf) ≡ ok =
+            then-right (refuse (leb 2 (difference (w .conf .incoming) (s .conf .incoming))) 18 0) (check (pendingTracked (ids (s .peers)) (w .log)) (w .conf))
+            (then-right (refuse (isEmpty (w .conf .incoming)) 17 0) (refuse (leb 2 (difference (w .conf .incoming) (s .conf .incoming))) 18 0 ▸ check (pendingTracked (ids (s .peers)) (w .log)) (w .conf))
+            (given-ok c log (tests w) (accepted (w .conf) (w .log)) (t .2))) in
+            let v : isEmpty (w .conf .incoming) ≡ false =
+            refuse-ok (isEmpty (w .conf .incoming)) 17 0 (then-left (refuse (isEmpty (w .conf .incoming)) 17 0) (refuse (leb 2 (difference (w .conf .incoming) (s .conf .incoming))) 18 0 ▸ check (pendingTracked (ids (s .peers)) (w .log)) (w .conf))
+            (given-ok c log (tests w) (accepted (w .conf) (w .log)) (t .2))) in
+            let ec : w .conf ≡ c = cc in
+            let el : w .log ≡ log = cc in
+            let f : Fine r (s .peers) (o .sound .ids↑) (start (s .conf)) = record { sound = o .sound; fits = refl; few = o .few } in
+            rw (← ec, ← el) (simple-from w (changes-done r (s .peers) (o .sound .ids↑) cs (start (s .conf)) w (t .1) f) k v)
+
+    enter-from : (auto : Bool) (w : Work) → joint (s .conf) ≡ false → After r (s .peers) (o .sound .ids↑) cs (start (entering (s .conf))) w
+        → check (pendingTracked (ids (s .peers)) (w .log)) (withAuto auto (w .conf)) ≡ ok → isEmpty (w .conf .incoming) ≡ false → Stepped s r (enterStep auto cs) (withAuto auto (w .conf)) (w .log)
+    unfolding enrol
+    enter-from auto w j a k v =
+        record {
+          sound = auto-sound auto (w .conf) (now r (s .peers) (o .sound .ids↑) w) (a .fine .sound);
+          fits = a .fine .fits;
+          few = a .fine .few;
+          short = omega (arith, a .short);
+          checked = k;
+          boxes = λ y. a .boxes y ∙ ap (changesBox r y cs) (enter-box (s .conf) (s .peers) (o .sound) j y);
+          voters = λ f e. absurd (true≢false (sym e ∙ v));
+        }
+
+    pub enter-stepped : (auto : Bool) (c : Conf) (log : List Entry) → enterOf s auto cs ≡ accepted c log → Stepped s r (enterStep auto cs) c log
+    unfolding enterOf enrol pending room
+    enter-stepped auto c log h = go (worked c log (changes (ids (s .peers)) cs (start (entering (s .conf)))) rest (given-then c log pre (afterwards (changes (ids (s .peers)) cs (start (entering (s .conf)))) rest) h))
+      where
+        pre : Verdict
+        pre = refuse (joint (s .conf)) 4 0 ▸ check (isTracked s) (s .conf) ▸ refuse (isEmpty (s .conf .incoming)) 15 0
+
+        tests : Work → Verdict
+        tests w = refuse (isEmpty (w .conf .incoming)) 17 0 ▸ check (pendingTracked (ids (s .peers)) (w .log)) (withAuto auto (w .conf))
+
+        rest : Work → Answer
+        rest w = tests w ⇒ accepted (withAuto auto (w .conf)) (w .log)
+
+        go : (w : Work) × (changes (ids (s .peers)) cs (start (entering (s .conf))) ≡ done w) × (rest w ≡ accepted c log) → Stepped s r (enterStep auto cs) c log
+        go t =
+            let w : Work = t .0 in
+            let e : accepted (withAuto auto (w .conf)) (w .log) ≡ accepted c log = given-then c log (tests w) (accepted (withAuto auto (w .conf)) (w .log)) (t .2) in
+            let k : check (pendingTracked (ids (s .peers)) (w .log)) (withAuto auto (w .conf)) ≡ ok =
+            then-right (refuse (isEmpty (w .conf .incoming)) 17 0) (check (pendingTracked (ids (s .peers)) (w .log)) (withAuto auto (w .conf)))
+            (given-ok c log (tests w) (accepted (withAuto auto (w .conf)) (w .log)) (t .2)) in
+            let j : joint (s .conf) ≡ false = refuse-ok (joint (s .conf)) 4 0 (then-left (refuse (joint (s .conf)) 4 0) (check (isTracked s) (s .conf) ▸ refuse (isEmpty (s .conf .incoming)) 15 0)
+            (given-ok c log pre (afterwards (changes (ids (s .peers)) cs (start (entering (s .conf)))) rest) h)) in
+            let v : isEmpty (w .conf .incoming) ≡ false =
+            refuse-ok (isEmpty (w .conf .incoming)) 17 0 (then-left (refuse (isEmpty (w .conf .incoming)) 17 0) (check (pendingTracked (ids (s .peers)) (w .log)) (withAuto auto (w .conf)))
+            (given-ok c log (tests w) (accepted (withAuto auto (w .conf)) (w .log)) (t .2))) in
+            let ec : withAuto auto (w .conf) ≡ c = cc in
+            let el : w .log ≡ log = cc in
+            let f : Fine r (s .peers) (o .sound .ids↑) (start (entering (s .conf))) = record { sound = enter-sound (s .conf) (s .peers) (o .sound) j; fits = refl; few = o .few } in
+            rw (← ec, ← el) (enter-from auto w j (changes-done r (s .peers) (o .sound .ids↑) cs (start (entering (s .conf))) w (t .1) f) k v)
+
+  pub leave-stepped : (c : Conf) (log : List Entry) → leaveOf s ≡ accepted c log → Stepped s r leaveStep c log
+  unfolding leaveOf
+  leave-stepped c log h =
+      let e : accepted (leaving (s .conf)) (removals (gone (s .conf))) ≡ accepted c log = given-then c log pre (accepted (leaving (s .conf)) (removals (gone (s .conf)))) h in
+      let ec : leaving (s .conf) ≡ c = cc in
+      let el : removals (gone (s .conf)) ≡ log = cc in
+      let k : check (pendingTracked (ids (s .peers)) (removals (gone (s .conf)))) (leaving (s .conf)) ≡ ok =
+      then-right (check (isTracked s) (s .conf)) second (then-right (refuse (not (joint (s .conf))) 5 0) (check (isTracked s) (s .conf) ▸ second)
+      (given-ok c log pre (accepted (leaving (s .conf)) (removals (gone (s .conf)))) h)) in
+      let j : joint (s .conf) ≡ true = not-false (joint (s .conf)) (refuse-ok (not (joint (s .conf))) 5 0 (then-left (refuse (not (joint (s .conf))) 5 0) (check (isTracked s) (s .conf) ▸ second)
+      (given-ok c log pre (accepted (leaving (s .conf)) (removals (gone (s .conf)))) h))) in
+      rw (← ec, ← el) (from j k (passes-of (pendingTracked (ids (s .peers)) (removals (gone (s .conf)))) (leaving (s .conf)) k .learner-not-incoming))
+    where
+      second : Verdict
+      second = check (pendingTracked (ids (s .peers)) (removals (gone (s .conf)))) (leaving (s .conf))
+
+      pre : Verdict
+      pre = refuse (not (joint (s .conf))) 5 0 ▸ check (isTracked s) (s .conf) ▸ second
+
+      outs : length (s .conf .outgoing) ≤ length (ids (s .peers))
+      outs = length-part (s .conf .outgoing) (ids (s .peers)) (o .sound .outgoing↑) (o .sound .ids↑) (passes-of (isTracked s) (s .conf) (o .checked) .outgoing-tracked)
+
+      from : joint (s .conf) ≡ true → second ≡ ok → ((x : ℕ) → memb x (leaving (s .conf) .learners) ≡ true → memb x (s .conf .incoming) ≡ false) → Stepped s r leaveStep (leaving (s .conf)) (removals (gone (s .conf)))
+      from j k m =
+          record {
+            sound = leave-sound r (s .conf) (s .peers) (o .sound) m;
+            fits = room-removals (gone (s .conf)) (ids (s .peers));
+            few = omega (arith, few-removals (gone (s .conf)) (ids (s .peers)), o .few);
+            short = omega (arith, length-removals (gone (s .conf)), length-minus (minus (s .conf .outgoing) (s .conf .incoming)) (leaving (s .conf) .learners), length-minus (s .conf .outgoing) (s .conf .incoming), outs, o .few);
+            checked = k;
+            boxes = leave-box r (s .conf) (s .peers) (o .sound) m;
+            voters = λ f e. absurd (true≢false (sym j ∙ ap joint (f e)));
+          }

@@ -1,0 +1,37 @@
+-- What demands 2 and 3 ask of the rules, as statements; proofs/Demand3.antt and proofs/RoundTrip.antt prove them. Assumes nothing.
+use Prim.Native.Nat.{ℕ}
+use mathlib.Core.Path.{_≡_}
+use mathlib.Core.Bool.{Bool, true}
+use mathlib.Core.List.{List}
+use Rattle.progress.specs.Record.{freshRecord}
+use Rattle.rules.specs.Ids.{memb}
+use Rattle.rules.specs.State.{State, ids, fresh, members}
+use Rattle.rules.specs.Answers.{ok, Outcome}
+use Rattle.rules.specs.Check.{isTracked, inOrder}
+use Rattle.rules.specs.Table.{placesOf, placesIn}
+use Rattle.rules.specs.Apply.{toConfState}
+use Rattle.rules.specs.Restore.{restore}
+use Rattle.rules.specs.Sequences.{Call, afterCalls, deeds}
+use Rattle.rules.specs.Boxes.{found, recordOf, boxOf, replay, events}
+
+-- Demand 3. After the calls cs, made from s: the state is in order, "the tracked boxes are exactly the members", a box's standing
+-- tells in which sets it is, and "each box's standing and record are what a plain replay of the accepted changes naming that box, with
+-- each enter and leave, gives".
+pub record Kept (s : State) (cs : List Call) : Type 0 where
+  pub ordered : inOrder (afterCalls s cs) ≡ true
+  pub tracked : (x : ℕ) → isTracked (afterCalls s cs) x ≡ memb x (members (afterCalls s cs .conf))
+  pub standing : (x : ℕ) → placesIn (isTracked (afterCalls s cs) x) (afterCalls s cs .conf) x ≡ placesOf (boxOf (afterCalls s cs) x .standing)
+  pub boxes : (x : ℕ) → boxOf (afterCalls s cs) x ≡ replay (events (s .maxInflight) x (deeds s cs)) (boxOf s x)
+
+-- Demand 2's last sentence, of a restore of s to `fresh l` that left o: it was accepted, the configuration is that of s, the same ids
+-- are tracked, and each under a fresh record.
+pub record Back (s : State) (l n : ℕ) (o : Outcome) : Type 0 where
+  pub verdict : o .verdict ≡ ok
+  pub conf : o .state .conf ≡ s .conf
+  pub tracked : ids (o .state .peers) ≡ ids (s .peers)
+  pub records : (x : ℕ) → memb x (ids (o .state .peers)) ≡ true → recordOf x (o .state .peers) ≡ found (freshRecord n l)
+
+-- "A configuration .., written out and restored to fresh, comes back the same."
+pub record ComesBack (s : State) (l n : ℕ) : Type 0 where
+  pub writes : toConfState s .verdict ≡ ok
+  pub back : Back s l n (restore (fresh l) (toConfState s .confState) n)

@@ -1,0 +1,16 @@
+pub mod Ids
+pub mod State
+pub mod Answers
+pub mod Check
+pub mod Table
+pub mod Changes
+pub mod Calls
+pub mod Apply
+pub mod Restore
+pub mod Sequences
+pub mod Boxes
+pub mod Rust
+pub mod Demands
+pub mod Rows
+pub mod Examples
+pub mod Refusals
