@@ -22,7 +22,8 @@ use Rattle.rules.specs.Demands.{Kept}
 use Rattle.rules.proofs.Sets.{and-left, and-right, or-right}
 use Rattle.rules.proofs.Plain.{events-append, replay-append, replay-step, stepBox}
 use Rattle.rules.proofs.Check.{refuse-ok, then-left, then-right}
-use Rattle.rules.proofs.Steps.{Ordered, Stepped, given-ok, given-then}
+use Rattle.rules.proofs.Steps.{Ordered, Stepped}
+use Rattle.rules.proofs.Means.{given-ok, given-then}
 use Rattle.rules.proofs.Order.{apply-ok, apply-ordered, asked, in-order, isIOS, ordered-of, plain-step, stepShort, tracked-members}
 
 -- ** Every list of a call can be read

@@ -1,11 +1,14 @@
 pub mod Sets
+pub mod Formed
 pub mod Peers
 pub mod Plain
 pub mod Boxes
 pub mod Changes
 pub mod Check
+pub mod Means
 pub mod Steps
 pub mod Order
+pub mod Applied
 pub mod Demand3
 pub mod Records
 pub mod Table
@@ -13,3 +16,4 @@ pub mod Thirteen
 pub mod Accept
 pub mod Singles
 pub mod RoundTrip
+pub mod Theorems

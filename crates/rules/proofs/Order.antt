@@ -22,6 +22,7 @@ use Rattle.rules.proofs.Sets.{and-left, and-right, ascending-all, ascen
 use Rattle.rules.proofs.Plain.{changesBox, stepBox}
 use Rattle.rules.proofs.Boxes.{Sound, spot}
 use Rattle.rules.proofs.Changes.{ids-enrol, last-says}
+use Rattle.rules.proofs.Formed.{Sets, of-sets, Whole, whole-of}
 use Rattle.rules.proofs.Check.{Passes, passes-of, stands-of}
 use Rattle.rules.proofs.Steps.{Checked, Ordered, Stepped, enter-stepped, isIdle, leave-stepped, ordered-checked, simple-stepped}
 
@@ -171,13 +172,14 @@ zero-step r leaveStep b h = ap leaveStanding h
 -- ** Well formed
 
 pub conf-formed : (c : Conf) (ps : List Peer) → Sound c ps → Passes (λ y. memb y (ids ps)) c → length (ids ps) ≤ 64 → confFormed c ≡ true
-unfolding confFormed
 conf-formed c ps s p h =
-    let i : length (c .incoming) ≤ 64 = omega (arith, length-part (c .incoming) (ids ps) (s .incoming↑) (s .ids↑) (p .incoming-tracked)) in
-    let o : length (c .outgoing) ≤ 64 = omega (arith, length-part (c .outgoing) (ids ps) (s .outgoing↑) (s .ids↑) (p .outgoing-tracked)) in
-    let l : length (c .learners) ≤ 64 = omega (arith, length-part (c .learners) (ids ps) (s .learners↑) (s .ids↑) (p .learner-tracked)) in
-    let g : length (c .staged) ≤ 64 = omega (arith, length-part (c .staged) (ids ps) (s .staged↑) (s .ids↑) (p .staged-tracked)) in
-    rw (s .incoming↑, s .outgoing↑, s .learners↑, s .staged↑, le-leb (length (c .incoming)) 64 i, le-leb (length (c .outgoing)) 64 o, le-leb (length (c .learners)) 64 l, le-leb (length (c .staged)) 64 g)
+    of-sets c
+    (record {
+      incoming = record { rises = s .incoming↑; few = omega (arith, length-part (c .incoming) (ids ps) (s .incoming↑) (s .ids↑) (p .incoming-tracked)) };
+      outgoing = record { rises = s .outgoing↑; few = omega (arith, length-part (c .outgoing) (ids ps) (s .outgoing↑) (s .ids↑) (p .outgoing-tracked)) };
+      learners = record { rises = s .learners↑; few = omega (arith, length-part (c .learners) (ids ps) (s .learners↑) (s .ids↑) (p .learner-tracked)) };
+      staged = record { rises = s .staged↑; few = omega (arith, length-part (c .staged) (ids ps) (s .staged↑) (s .ids↑) (p .staged-tracked)) };
+    })
 
 pub formed-of : (s : State) → Ordered s → formed s ≡ true
 unfolding formed
@@ -270,7 +272,7 @@ tracked-members s o y = go (standingIn (spot (s .conf) (s .peers) y)) (o .sound 
     go st q b = ap (λ (p : Places). p .tracked) q ∙ member-places st b ∙ sym (ap isMember q)
 
 pub ordered-of : (s : State) → inOrder s ≡ true → Ordered s
-unfolding inOrder formed confFormed standingIn
+unfolding inOrder standingIn
 ordered-of s h =
     let c : Conf = s .conf in
     let xs : List ℕ = ids (s .peers) in
@@ -281,29 +283,23 @@ ordered-of s h =
     let k : check (isTracked s) c ≡ ok = passes-ok (check (isTracked s) c) (and-right (formed s) (passes (check (isTracked s) c)) h2) in
     let z : memb 0 xs ≡ false = not-true (memb 0 xs) (and-left (not (memb 0 xs)) (not (memb 0 (members c))) (and-right (formed s && passes (check (isTracked s) c)) nowhere h3)) in
     let e : xs ≡ members c = same-ids xs (members c) (and-right (formed s && passes (check (isTracked s) c) && nowhere) (sameIds xs (members c)) h) in
-    let f4 : confFormed c ≡ true = and-left (confFormed c) (setFormed xs) f in
-    let fx : setFormed xs ≡ true = and-right (confFormed c) (setFormed xs) f in
-    let f3 : setFormed (c .incoming) && setFormed (c .outgoing) && setFormed (c .learners) ≡ true = and-left (setFormed (c .incoming) && setFormed (c .outgoing) && setFormed (c .learners)) (setFormed (c .staged)) f4 in
-    let f2 : setFormed (c .incoming) && setFormed (c .outgoing) ≡ true = and-left (setFormed (c .incoming) && setFormed (c .outgoing)) (setFormed (c .learners)) f3 in
+    let w : Whole s = whole-of s f in
     let st : (y : ℕ) → spot c (s .peers) y ≡ placesOf (standingIn (spot c (s .peers) y)) = stands-of (isTracked s) c (passes-of (isTracked s) c k) in
     record {
       sound = record {
-        incoming↑ = up (c .incoming) (and-left (setFormed (c .incoming)) (setFormed (c .outgoing)) f2);
-        outgoing↑ = up (c .outgoing) (and-right (setFormed (c .incoming)) (setFormed (c .outgoing)) f2);
-        learners↑ = up (c .learners) (and-right (setFormed (c .incoming) && setFormed (c .outgoing)) (setFormed (c .learners)) f3);
-        staged↑ = up (c .staged) (and-right (setFormed (c .incoming) && setFormed (c .outgoing) && setFormed (c .learners)) (setFormed (c .staged)) f4);
-        ids↑ = up xs fx;
+        incoming↑ = w .sets .incoming .rises;
+        outgoing↑ = w .sets .outgoing .rises;
+        learners↑ = w .sets .learners .rises;
+        staged↑ = w .sets .staged .rises;
+        ids↑ = w .tracked .rises;
         stands = st;
       };
-      few = leb-true (length xs) 64 (and-right (ascending xs) (leb (length xs) 64) fx);
+      few = w .tracked .few;
       checked = k;
       zero = rw z;
       busy = λ y. busy y (standingIn (spot c (s .peers) y)) (st y) (ap (memb y) e ∙ memb-members y c);
     }
   where
-    up : (xs : List ℕ) → setFormed xs ≡ true → ascending xs ≡ true
-    up xs h = and-left (ascending xs) (leb (length xs) 64) h
-
     busy : (y : ℕ) (st : Standing) → spot (s .conf) (s .peers) y ≡ placesOf st → memb y (ids (s .peers)) ≡ isMember (spot (s .conf) (s .peers) y) → isIdle st ≡ false
     busy y st q e = places-member st (sym (ap (λ (p : Places). p .tracked) q) ∙ e ∙ ap isMember q)
 

@@ -23,6 +23,7 @@ use Rattle.rules.proofs.Peers.{ids-untrack, record-untrack}
 use Rattle.rules.proofs.Plain.{changesBox, stepBox}
 use Rattle.rules.proofs.Boxes.{Sound, boxAt, spot, standing-places}
 use Rattle.rules.proofs.Changes.{After, Fine, changes-done, now}
+use Rattle.rules.proofs.Means.{Simple, simple-means, Enter, enter-means, Leave, leave-means}
 use Rattle.rules.proofs.Check.{passes-of, refuse-ok, then-left, then-right}
 
 abbrev pub isIdle : Standing → Bool
@@ -61,21 +62,6 @@ pub record Stepped (s : State) (r : Progress) (p : Step) (c : Conf) (log : List 
   pub checked : check (pendingTracked (ids (s .peers)) log) c ≡ ok
   pub boxes : (y : ℕ) → boxAt c (enrol r log (s .peers)) y ≡ stepBox r y p (boxAt (s .conf) (s .peers) y)
   pub voters : (isEmpty (s .conf .incoming) ≡ true → s .conf ≡ noConf) → isEmpty (c .incoming) ≡ true → c ≡ noConf
-
--- ** Reading an accepted answer
-
-module _ (c : Conf) (log : List Entry) where
-  pub given-ok : (v : Verdict) (a : Answer) → v ⇒ a ≡ accepted c log → v ≡ ok
-  given-ok ok a h = refl
-  given-ok (fault n x) a h = absurd (let z : _≡_ {A = ℕ} 0 1 = cc in omega arith)
-
-  pub given-then : (v : Verdict) (a : Answer) → v ⇒ a ≡ accepted c log → a ≡ accepted c log
-  given-then ok a h = h
-  given-then (fault n x) a h = absurd (let z : _≡_ {A = ℕ} 0 1 = cc in omega arith)
-
-  worked : (d : Done) (k : Work → Answer) → afterwards d k ≡ accepted c log → (w : Work) × (d ≡ done w) × (k w ≡ accepted c log)
-  worked (done w) k h = (w, refl, h)
-  worked (full x) k h = absurd (let z : _≡_ {A = ℕ} 0 1 = cc in omega arith)
 
 pub no-joint : (c : Conf) → joint c ≡ false → (x : ℕ) → memb x (c .outgoing) ≡ false
 no-joint c h x = empty-none (c .outgoing) (not-false (isEmpty (c .outgoing)) h) x
@@ -265,6 +251,9 @@ module _ (r : Progress) (c : Conf) (ps : List Peer) (s : Sound c ps) (h : (x : �
 
 -- ** The three calls
 
+stepped-at : (s : State) (r : Progress) (p : Step) {c d : Conf} {log es : List Entry} → c ≡ d → log ≡ es → Stepped s r p c log → Stepped s r p d es
+stepped-at s r p e f a = rw (← e, ← f) a
+
 module _ (s : State) (o : Checked s) (r : Progress) where
   module _ (cs : List Change) (short : length cs ≤ 256) where
     simple-from : (w : Work) → After r (s .peers) (o .sound .ids↑) cs (start (s .conf)) w → check (pendingTracked (ids (s .peers)) (w .log)) (w .conf) ≡ ok → isEmpty (w .conf .incoming) ≡ false → Stepped s r (simpleStep cs) (w .conf) (w .log)
@@ -281,33 +270,11 @@ module _ (s : State) (o : Checked s) (r : Progress) where
         }
 
     pub simple-stepped : (c : Conf) (log : List Entry) → simpleOf s cs ≡ accepted c log → Stepped s r (simpleStep cs) c log
-    unfolding simpleOf enrol pending room
-    simple-stepped c log h = go (worked c log (changes (ids (s .peers)) cs (start (s .conf))) rest (given-then c log pre (afterwards (changes (ids (s .peers)) cs (start (s .conf))) rest) h))
-      where
-        pre : Verdict
-        pre = refuse (joint (s .conf)) 6 0 ▸ check (isTracked s) (s .conf)
-
-        tests : Work → Verdict
-        tests w = refuse (isEmpty (w .conf .incoming)) 17 0 ▸ refuse (leb 2 (difference (w .conf .incoming) (s .conf .incoming))) 18 0 ▸ check (pendingTracked (ids (s .peers)) (w .log)) (w .conf)
-
-        rest : Work → Answer
-        rest w = tests w ⇒ accepted (w .conf) (w .log)
-
-        go : (w : Work) × (changes (ids (s .peers)) cs (start (s .conf)) ≡ done w) × (rest w ≡ accepted c log) → Stepped s r (simpleStep cs) c log
-        go t =
-            let w : Work = t .0 in
-            let e : accepted (w .conf) (w .log) ≡ accepted c log = given-then c log (tests w) (accepted (w .conf) (w .log)) (t .2) in
-            let k : check (pendingTracked (ids (s .peers)) (w .log)) (w .conf) ≡ ok =
-            then-right (refuse (leb 2 (difference (w .conf .incoming) (s .conf .incoming))) 18 0) (check (pendingTracked (ids (s .peers)) (w .log)) (w .conf))
-            (then-right (refuse (isEmpty (w .conf .incoming)) 17 0) (refuse (leb 2 (difference (w .conf .incoming) (s .conf .incoming))) 18 0 ▸ check (pendingTracked (ids (s .peers)) (w .log)) (w .conf))
-            (given-ok c log (tests w) (accepted (w .conf) (w .log)) (t .2))) in
-            let v : isEmpty (w .conf .incoming) ≡ false =
-            refuse-ok (isEmpty (w .conf .incoming)) 17 0 (then-left (refuse (isEmpty (w .conf .incoming)) 17 0) (refuse (leb 2 (difference (w .conf .incoming) (s .conf .incoming))) 18 0 ▸ check (pendingTracked (ids (s .peers)) (w .log)) (w .conf))
-            (given-ok c log (tests w) (accepted (w .conf) (w .log)) (t .2))) in
-            let ec : w .conf ≡ c = cc in
-            let el : w .log ≡ log = cc in
-            let f : Fine r (s .peers) (o .sound .ids↑) (start (s .conf)) = record { sound = o .sound; fits = refl; few = o .few } in
-            rw (← ec, ← el) (simple-from w (changes-done r (s .peers) (o .sound .ids↑) cs (start (s .conf)) w (t .1) f) k v)
+    unfolding enrol pending room
+    simple-stepped c log h =
+        let m : Simple s cs c log = simple-means s c log cs h in
+        let f : Fine r (s .peers) (o .sound .ids↑) (start (s .conf)) = record { sound = o .sound; fits = refl; few = o .few } in
+        stepped-at s r (simpleStep cs) (m .conf) (m .logs) (simple-from (m .work) (changes-done r (s .peers) (o .sound .ids↑) cs (start (s .conf)) (m .work) (m .does) f) (m .again) (m .voter))
 
     enter-from : (auto : Bool) (w : Work) → joint (s .conf) ≡ false → After r (s .peers) (o .sound .ids↑) cs (start (entering (s .conf))) w
         → check (pendingTracked (ids (s .peers)) (w .log)) (withAuto auto (w .conf)) ≡ ok → isEmpty (w .conf .incoming) ≡ false → Stepped s r (enterStep auto cs) (withAuto auto (w .conf)) (w .log)
@@ -324,58 +291,21 @@ module _ (s : State) (o : Checked s) (r : Progress) where
         }
 
     pub enter-stepped : (auto : Bool) (c : Conf) (log : List Entry) → enterOf s auto cs ≡ accepted c log → Stepped s r (enterStep auto cs) c log
-    unfolding enterOf enrol pending room
-    enter-stepped auto c log h = go (worked c log (changes (ids (s .peers)) cs (start (entering (s .conf)))) rest (given-then c log pre (afterwards (changes (ids (s .peers)) cs (start (entering (s .conf)))) rest) h))
-      where
-        pre : Verdict
-        pre = refuse (joint (s .conf)) 4 0 ▸ check (isTracked s) (s .conf) ▸ refuse (isEmpty (s .conf .incoming)) 15 0
-
-        tests : Work → Verdict
-        tests w = refuse (isEmpty (w .conf .incoming)) 17 0 ▸ check (pendingTracked (ids (s .peers)) (w .log)) (withAuto auto (w .conf))
-
-        rest : Work → Answer
-        rest w = tests w ⇒ accepted (withAuto auto (w .conf)) (w .log)
-
-        go : (w : Work) × (changes (ids (s .peers)) cs (start (entering (s .conf))) ≡ done w) × (rest w ≡ accepted c log) → Stepped s r (enterStep auto cs) c log
-        go t =
-            let w : Work = t .0 in
-            let e : accepted (withAuto auto (w .conf)) (w .log) ≡ accepted c log = given-then c log (tests w) (accepted (withAuto auto (w .conf)) (w .log)) (t .2) in
-            let k : check (pendingTracked (ids (s .peers)) (w .log)) (withAuto auto (w .conf)) ≡ ok =
-            then-right (refuse (isEmpty (w .conf .incoming)) 17 0) (check (pendingTracked (ids (s .peers)) (w .log)) (withAuto auto (w .conf)))
-            (given-ok c log (tests w) (accepted (withAuto auto (w .conf)) (w .log)) (t .2)) in
-            let j : joint (s .conf) ≡ false = refuse-ok (joint (s .conf)) 4 0 (then-left (refuse (joint (s .conf)) 4 0) (check (isTracked s) (s .conf) ▸ refuse (isEmpty (s .conf .incoming)) 15 0)
-            (given-ok c log pre (afterwards (changes (ids (s .peers)) cs (start (entering (s .conf)))) rest) h)) in
-            let v : isEmpty (w .conf .incoming) ≡ false =
-            refuse-ok (isEmpty (w .conf .incoming)) 17 0 (then-left (refuse (isEmpty (w .conf .incoming)) 17 0) (check (pendingTracked (ids (s .peers)) (w .log)) (withAuto auto (w .conf)))
-            (given-ok c log (tests w) (accepted (withAuto auto (w .conf)) (w .log)) (t .2))) in
-            let ec : withAuto auto (w .conf) ≡ c = cc in
-            let el : w .log ≡ log = cc in
-            let f : Fine r (s .peers) (o .sound .ids↑) (start (entering (s .conf))) = record { sound = enter-sound (s .conf) (s .peers) (o .sound) j; fits = refl; few = o .few } in
-            rw (← ec, ← el) (enter-from auto w j (changes-done r (s .peers) (o .sound .ids↑) cs (start (entering (s .conf))) w (t .1) f) k v)
+    unfolding enrol pending room
+    enter-stepped auto c log h =
+        let m : Enter s auto cs c log = enter-means s c log auto cs h in
+        let f : Fine r (s .peers) (o .sound .ids↑) (start (entering (s .conf))) = record { sound = enter-sound (s .conf) (s .peers) (o .sound) (m .single); fits = refl; few = o .few } in
+        stepped-at s r (enterStep auto cs) (m .conf) (m .logs) (enter-from auto (m .work) (m .single) (changes-done r (s .peers) (o .sound .ids↑) cs (start (entering (s .conf))) (m .work) (m .does) f) (m .again) (m .voter))
 
   pub leave-stepped : (c : Conf) (log : List Entry) → leaveOf s ≡ accepted c log → Stepped s r leaveStep c log
-  unfolding leaveOf
   leave-stepped c log h =
-      let e : accepted (leaving (s .conf)) (removals (gone (s .conf))) ≡ accepted c log = given-then c log pre (accepted (leaving (s .conf)) (removals (gone (s .conf)))) h in
-      let ec : leaving (s .conf) ≡ c = cc in
-      let el : removals (gone (s .conf)) ≡ log = cc in
-      let k : check (pendingTracked (ids (s .peers)) (removals (gone (s .conf)))) (leaving (s .conf)) ≡ ok =
-      then-right (check (isTracked s) (s .conf)) second (then-right (refuse (not (joint (s .conf))) 5 0) (check (isTracked s) (s .conf) ▸ second)
-      (given-ok c log pre (accepted (leaving (s .conf)) (removals (gone (s .conf)))) h)) in
-      let j : joint (s .conf) ≡ true = not-false (joint (s .conf)) (refuse-ok (not (joint (s .conf))) 5 0 (then-left (refuse (not (joint (s .conf))) 5 0) (check (isTracked s) (s .conf) ▸ second)
-      (given-ok c log pre (accepted (leaving (s .conf)) (removals (gone (s .conf)))) h))) in
-      rw (← ec, ← el) (from j k (passes-of (pendingTracked (ids (s .peers)) (removals (gone (s .conf)))) (leaving (s .conf)) k .learner-not-incoming))
+      let m : Leave s c log = leave-means s c log h in
+      stepped-at s r leaveStep (m .conf) (m .logs) (from (m .jointly) (m .again) (passes-of (pendingTracked (ids (s .peers)) (removals (gone (s .conf)))) (leaving (s .conf)) (m .again) .learner-not-incoming))
     where
-      second : Verdict
-      second = check (pendingTracked (ids (s .peers)) (removals (gone (s .conf)))) (leaving (s .conf))
-
-      pre : Verdict
-      pre = refuse (not (joint (s .conf))) 5 0 ▸ check (isTracked s) (s .conf) ▸ second
-
       outs : length (s .conf .outgoing) ≤ length (ids (s .peers))
       outs = length-part (s .conf .outgoing) (ids (s .peers)) (o .sound .outgoing↑) (o .sound .ids↑) (passes-of (isTracked s) (s .conf) (o .checked) .outgoing-tracked)
 
-      from : joint (s .conf) ≡ true → second ≡ ok → ((x : ℕ) → memb x (leaving (s .conf) .learners) ≡ true → memb x (s .conf .incoming) ≡ false) → Stepped s r leaveStep (leaving (s .conf)) (removals (gone (s .conf)))
+      from : joint (s .conf) ≡ true → check (pendingTracked (ids (s .peers)) (removals (gone (s .conf)))) (leaving (s .conf)) ≡ ok → ((x : ℕ) → memb x (leaving (s .conf) .learners) ≡ true → memb x (s .conf .incoming) ≡ false) → Stepped s r leaveStep (leaving (s .conf)) (removals (gone (s .conf)))
       from j k m =
           record {
             sound = leave-sound r (s .conf) (s .peers) (o .sound) m;

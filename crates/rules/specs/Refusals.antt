@@ -6,7 +6,7 @@ use mathlib.Core.Bool.{Bool, true, false}
 use mathlib.Core.List.{List, [], _∷_, _++_}
 use Rattle.progress.specs.Record.{freshRecord}
 use Rattle.rules.specs.Ids.{memb, above, ascending, insertId, insertAll, removeId, minus, sameIds}
-use Rattle.rules.specs.State.{Conf, Peer, State, ids, confFormed, formed, noConf, fresh, Entry, add, remove, logFormed}
+use Rattle.rules.specs.State.{Conf, Peer, State, ids, confFormed, formed, noConf, fresh, Entry, add, remove, logFormed, ConfState}
 use Rattle.rules.specs.Answers.{Verdict, ok, fault, Outcome, each}
 use Rattle.rules.specs.Check.{check, checkState, inOrder}
 use Rattle.rules.specs.Table.{table, standingIn}
@@ -38,6 +38,17 @@ s2 = of (olds (1 ∷ 2 ∷ [])) (conf (1 ∷ 2 ∷ []) [] [] [])
 -- joint: (1)&&(1 2)
 abbrev sj : State
 sj = of (olds (1 ∷ 2 ∷ [])) (conf (1 ∷ []) (1 ∷ 2 ∷ []) [] [])
+
+-- joint with the flag, (1 2)&&(1); joint with two that go, (1)&&(1 2 3)
+abbrev sf : State
+sf = of (olds (1 ∷ 2 ∷ [])) (record { incoming = 1 ∷ 2 ∷ []; outgoing = 1 ∷ []; learners = []; staged = []; autoLeave = true })
+
+abbrev sg : State
+sg = of (olds (1 ∷ 2 ∷ 3 ∷ [])) (conf (1 ∷ []) (1 ∷ 2 ∷ 3 ∷ []) [] [])
+
+-- the same lists, with the flag
+abbrev flagged : List ℕ → List ℕ → List ℕ → List ℕ → ConfState
+flagged v l o g = record { voters = v; learners = l; votersOutgoing = o; learnersNext = g; autoLeave = true }
 
 -- malformed: a set that does not ascend, one with an id twice, one of 65; the tracked list likewise
 abbrev down : Conf
@@ -114,9 +125,15 @@ rows =
     ∷ row 0 s2 (simpleCall (1 ∷ 2 ∷ []) (1 ∷ 1 ∷ []) 77) (fault 17 0) s2 []
     ∷ row 0 s15 (enterCall false (1 ∷ 65 ∷ []) (1 ∷ 0 ∷ []) 77) (fault 16 65) s15 []
     ∷ row 0 s2 (enterCall true (1 ∷ 2 ∷ []) (1 ∷ 2 ∷ []) 77) (fault 17 0) s2 []
-    -- entering with the flag; two voters change in a joint configuration; four empty lists on a joint state
+    -- entering with the flag, and leaving: two voters change at once, the flag goes; what goes is logged ascending
     ∷ row 0 s1 (enterCall true (2 ∷ 3 ∷ []) (0 ∷ 0 ∷ []) 77) ok (of (old 1 ∷ new 2 ∷ new 3 ∷ []) (record { incoming = 1 ∷ 2 ∷ 3 ∷ []; outgoing = 1 ∷ []; learners = []; staged = []; autoLeave = true })) (add 2 ∷ add 3 ∷ [])
+    ∷ row 0 sf (leaveCall 77) ok (of (olds (1 ∷ 2 ∷ [])) (conf (1 ∷ 2 ∷ []) [] [] [])) []
+    ∷ row 0 sg (leaveCall 77) ok s1 (remove 2 ∷ remove 3 ∷ [])
+    -- restore: four empty lists on a joint state; a flag without outgoing voters is ignored, a staged id is then a learner; the flag with
+    -- outgoing voters
     ∷ row 0 sj (restoreCall (lists [] [] [] []) 77) ok sj []
+    ∷ row 0 s0 (restoreCall (flagged (1 ∷ []) [] [] (2 ∷ [])) 77) ok (of (new 1 ∷ new 2 ∷ []) (conf (1 ∷ []) [] (2 ∷ []) [])) []
+    ∷ row 0 s0 (restoreCall (flagged (2 ∷ []) [] (1 ∷ []) []) 77) ok (of (new 1 ∷ new 2 ∷ []) (record { incoming = 2 ∷ []; outgoing = 1 ∷ []; learners = []; staged = []; autoLeave = true })) []
     ∷ []
 
 pub every-other-row : asked rows ≡ told rows
@@ -154,7 +171,7 @@ each-fault = refl
 
 -- example 14's state is; an idle box, an untracked member, an id 0 and a fault each take it away
 pub in-order-or-not : (inOrder s0 ≡ true) × (inOrder s1 ≡ true) × (inOrder s14 ≡ true) × (inOrder (of (olds (1 ∷ 2 ∷ [])) (s1 .conf)) ≡ false) × (inOrder (of [] (s1 .conf)) ≡ false)
-    × (inOrder (of (olds (0 ∷ [])) (conf (0 ∷ []) [] [] [])) ≡ false) × (inOrder s17 ≡ false) × (inOrder m5 ≡ false)
+    × (inOrder (of (olds (0 ∷ [])) (conf (0 ∷ []) [] [] [])) ≡ false) × (inOrder s17 ≡ false) × (inOrder m1 ≡ false)
 unfolding inOrder check each formed confFormed memb above ascending insertId insertAll sameIds ids
 in-order-or-not = (refl, refl, refl, refl, refl, refl, refl, refl)
 
@@ -194,7 +211,11 @@ pub tracked-at-64 : applyConf s15 noConf (add 64 ∷ []) 77 ≡ record { verdict
 unfolding applyConf room enrol formed confFormed logFormed memb above ascending insertId insertAll removeId ids track untrack
 tracked-at-64 = refl
 
-pub each-written : (toConfState s14 ≡ record { verdict = ok; confState = lists (1 ∷ 2 ∷ []) [] (1 ∷ 2 ∷ []) (2 ∷ []) }) × (toConfState m5 ≡ record { verdict = fault 1 0; confState = noConfState })
+-- incoming (1), outgoing (2), learners (3), staged (4), and the flag
+abbrev s19 : State
+s19 = of [] (record { incoming = 1 ∷ []; outgoing = 2 ∷ []; learners = 3 ∷ []; staged = 4 ∷ []; autoLeave = true })
+
+pub each-written : (toConfState s19 ≡ record { verdict = ok; confState = flagged (1 ∷ []) (3 ∷ []) (2 ∷ []) (4 ∷ []) }) × (toConfState m5 ≡ record { verdict = fault 1 0; confState = noConfState })
 unfolding toConfState formed confFormed memb above ascending ids
 each-written = (refl, refl)
 

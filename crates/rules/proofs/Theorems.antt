@@ -1,0 +1,116 @@
+-- What is claimed of the rules, one theorem after the other, for the reader. The P examples are specs/Examples.antt. Assumes nothing.
+use Prim.Native.Nat.{ℕ, _≤_}
+use mathlib.Core.Path.{_≡_, refl, ap, _∙_, sym}
+use mathlib.Core.Bool.{Bool, true, false, _&&_, not, cond}
+use mathlib.Core.List.{List, [], _∷_, _++_}
+use lib.Dec.{eqb}
+use lib.ListN.{length}
+use Rattle.progress.specs.declared.Progress.{Progress}
+use Rattle.progress.specs.Record.{freshRecord}
+use Rattle.rules.specs.Ids.{memb, ascending}
+use Rattle.rules.specs.State.{Conf, Peer, State, ids, members, confFormed, formed, fresh, Change, Entry, ConfState}
+use Rattle.rules.specs.Answers.{Verdict, ok, fault, Answer, accepted, refuse, _▸_}
+use Rattle.rules.specs.Check.{check, checkState, isTracked, inOrder}
+use Rattle.rules.specs.Table.{Places, placesOf, placesIn}
+use Rattle.rules.specs.Changes.{pendingTracked, Work, done, change}
+use Rattle.rules.specs.Calls.{listOf, readable, simpleOf, simple, enterOf, enterJoint, leaveOf, leaveJoint}
+use Rattle.rules.specs.Apply.{applied, applyConf}
+use Rattle.rules.specs.Restore.{Step, simpleStep, enterStep, leaveStep, ask, applyAnswer}
+use Rattle.rules.specs.Sequences.{Call, simpleCall, enterCall, leaveCall, restoreCall, perform, afterCalls}
+use Rattle.rules.specs.Boxes.{Box, changeBox, Event, replay, naming}
+use Rattle.rules.specs.Rust.{byKind}
+use Rattle.rules.specs.Demands.{Kept, ComesBack}
+use Rattle.rules.proofs.Plain.{changesBox}
+use Rattle.rules.proofs.Boxes.{spot, boxAt, Sound}
+use Rattle.rules.proofs.Changes.{now, Fine, After, change-done, tracked-now}
+use Rattle.rules.proofs.Check.{then-left, then-right, refuse-ok}
+use Rattle.rules.proofs.Means.{given-ok, given-then}
+use Rattle.rules.proofs.Order.{stepShort}
+use Rattle.rules.proofs.Applied.{Applied, any-applied}
+use Rattle.rules.proofs.Demand3.{demand-3, read-short, others-alter-nothing}
+use Rattle.rules.proofs.Table.{change-agrees}
+use Rattle.rules.proofs.Thirteen.{check-never-13, call-never-13}
+use Rattle.rules.proofs.RoundTrip.{round-trip}
+use borrow.Author.Tests.{not-false}
+
+-- ** Number 13 is never given
+
+pub never-13-by-the-check : (t : ℕ → Bool) (c : Conf) (x : ℕ) → check t c ≡ fault 13 x → ⊥
+never-13-by-the-check = check-never-13
+
+pub never-13-by-a-call : (s : State) (c : Call) (x : ℕ) → perform s c .verdict ≡ fault 13 x → ⊥
+never-13-by-a-call = call-never-13
+
+-- ** The table
+
+-- a change that is not skipped and not refused does what `make_voter`, `make_learner` or `remove` of changer.rs does
+pub table-is-the-rust : (r : Progress) (ps : List Peer) (up : ascending (ids ps) ≡ true) (c : Change) (w v : Work) → Fine r ps up w → eqb (c .id) 0 ≡ false
+    → change (ids ps) c w ≡ done v → v ≡ byKind (c .kind) (pendingTracked (ids ps) (w .log) (c .id)) (c .id) w
+table-is-the-rust = change-agrees
+
+-- a change alters only its own id: any other is tracked as before, and in the same sets
+pub change-alters-only-its-own : (r : Progress) (ps : List Peer) (up : ascending (ids ps) ≡ true) (c : Change) (w v : Work) → Fine r ps up w
+    → change (ids ps) c w ≡ done v → (y : ℕ) → eqb (c .id) y ≡ false
+    → placesIn (pendingTracked (ids ps) (v .log) y) (v .conf) y ≡ placesIn (pendingTracked (ids ps) (w .log) y) (w .conf) y
+unfolding changesBox
+change-alters-only-its-own r ps up c w v f h y e =
+    let a : After r ps up (c ∷ []) w v = change-done r ps up c w v h f in
+    let b : boxAt (v .conf) (now r ps up v) y ≡ boxAt (w .conf) (now r ps up w) y =
+    a .boxes y ∙ ap (λ (t : Bool). cond (t && not (eqb y 0)) (changeBox r (c .kind) (boxAt (w .conf) (now r ps up w) y)) (boxAt (w .conf) (now r ps up w) y)) e in
+    rw (tracked-now r ps up v y, tracked-now r ps up w y)
+    (a .fine .sound .stands y ∙ ap (λ (x : Box). placesOf (x .standing)) b ∙ sym (f .sound .stands y))
+
+-- ** An accepted answer is applied
+
+-- of any well-formed state, in order or not, apply_conf takes every answer that a call accepted
+module _ (s : State) (n : ℕ) (c : Conf) (log : List Entry) where
+  taken : formed s ≡ true → (p : Step) → stepShort p → ask s p ≡ accepted c log → applyConf s c log n .verdict ≡ ok
+  taken f p h e = ap (λ o. o .verdict) (any-applied s f n p h c log e .done)
+
+  well : refuse (not (formed s)) 1 0 ≡ ok → formed s ≡ true
+  well h = not-false (formed s) (refuse-ok (not (formed s)) 1 0 h)
+
+  pub simple-is-applied : (xs ks : List ℕ) → simple s xs ks ≡ accepted c log → applyConf s c log n .verdict ≡ ok
+  unfolding simple ask
+  simple-is-applied xs ks h =
+      let k : refuse (not (formed s)) 1 0 ▸ readable xs ks ≡ ok = given-ok c log (refuse (not (formed s)) 1 0 ▸ readable xs ks) (simpleOf s (listOf xs ks)) h in
+      taken (well (then-left (refuse (not (formed s)) 1 0) (readable xs ks) k)) (simpleStep (listOf xs ks)) (read-short xs ks (then-right (refuse (not (formed s)) 1 0) (readable xs ks) k))
+      (given-then c log (refuse (not (formed s)) 1 0 ▸ readable xs ks) (simpleOf s (listOf xs ks)) h)
+
+  pub enter-is-applied : (auto : Bool) (xs ks : List ℕ) → enterJoint s auto xs ks ≡ accepted c log → applyConf s c log n .verdict ≡ ok
+  unfolding enterJoint ask
+  enter-is-applied auto xs ks h =
+      let k : refuse (not (formed s)) 1 0 ▸ readable xs ks ≡ ok = given-ok c log (refuse (not (formed s)) 1 0 ▸ readable xs ks) (enterOf s auto (listOf xs ks)) h in
+      taken (well (then-left (refuse (not (formed s)) 1 0) (readable xs ks) k)) (enterStep auto (listOf xs ks)) (read-short xs ks (then-right (refuse (not (formed s)) 1 0) (readable xs ks) k))
+      (given-then c log (refuse (not (formed s)) 1 0 ▸ readable xs ks) (enterOf s auto (listOf xs ks)) h)
+
+  pub leave-is-applied : leaveJoint s ≡ accepted c log → applyConf s c log n .verdict ≡ ok
+  unfolding leaveJoint ask
+  leave-is-applied h =
+      taken (well (given-ok c log (refuse (not (formed s)) 1 0) (leaveOf s) h)) leaveStep tt (given-then c log (refuse (not (formed s)) 1 0) (leaveOf s) h)
+
+-- ** In order is kept
+
+-- a call made on a state in order ends in one
+pub order-is-kept : (s : State) → inOrder s ≡ true → (c : Call) → inOrder (perform s c .state) ≡ true
+unfolding afterCalls
+order-is-kept s h c = demand-3 s h (c ∷ []) .ordered
+
+-- and its tracked boxes are exactly the members
+pub tracked-are-the-members : (s : State) → inOrder s ≡ true → (c : Call) (x : ℕ) → isTracked (perform s c .state) x ≡ memb x (members (perform s c .state .conf))
+unfolding afterCalls
+tracked-are-the-members s h c = demand-3 s h (c ∷ []) .tracked
+
+-- ** The demands
+
+-- Demand 3: after any sequence of calls from a state in order
+pub boxes-are-their-replay : (s : State) → inOrder s ≡ true → (cs : List Call) → Kept s cs
+boxes-are-their-replay = demand-3
+
+-- "In an accepted list, changes naming other boxes alter neither": with or without such a change, a list says the same to the box
+pub others-alter-neither : (r : Progress) (x : ℕ) (cs ds : List Change) (c : Change) → eqb (c .id) x ≡ false → naming r x (cs ++ (c ∷ ds)) ≡ naming r x (cs ++ ds)
+others-alter-neither = others-alter-nothing
+
+-- Demand 2's last sentence: from fresh by any calls, written out, and restored to fresh
+pub reached-comes-back : (m l n : ℕ) (cs : List Call) → ComesBack (afterCalls (fresh m) cs) l n
+reached-comes-back = round-trip
