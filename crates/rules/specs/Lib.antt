@@ -13,4 +13,6 @@ pub mod Rust
 pub mod Demands
 pub mod Rows
 pub mod Examples
+pub mod Cases
 pub mod Refusals
+pub mod Faults

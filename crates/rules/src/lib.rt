@@ -1,3 +1,1 @@
-pub fn none() -> u64 {
-    0
-}
+// No code: document 01 as definitions on lists, in specs/, and what is proved of them, in proofs/.
