@@ -174,7 +174,7 @@ pub memb-head : (y : ℕ) (ys : List ℕ) → memb y (y ∷ ys) ≡ true
 unfolding memb
 memb-head y ys = rw (eq-eqb y y refl)
 
-memb-before : (x y : ℕ) (ys : List ℕ) → above y ys ≡ true → x < y → memb x (y ∷ ys) ≡ false
+pub memb-before : (x y : ℕ) (ys : List ℕ) → above y ys ≡ true → x < y → memb x (y ∷ ys) ≡ false
 unfolding memb
 memb-before x y ys a h =
     let ne : y ≡ x → ⊥ = omega arith in

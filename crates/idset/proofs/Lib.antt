@@ -1,0 +1,12 @@
+pub mod Sizes
+pub mod Part
+pub mod Steps
+pub mod Shift
+pub mod Walk
+pub mod Turns
+pub mod Places
+pub mod Answers
+pub mod Merge
+pub mod Difference
+pub mod Cursor
+pub mod Bridge
