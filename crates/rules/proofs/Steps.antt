@@ -145,7 +145,7 @@ record-removals r (x ∷ xs) ps y a =
     go true false = refl
     go false m = refl
 
-room-removals : (xs base : List ℕ) → room (removals xs) base ≡ ok
+pub room-removals : (xs base : List ℕ) → room (removals xs) base ≡ ok
 unfolding removals room
 room-removals [] base = refl
 room-removals (x ∷ xs) base = room-removals xs (removeId x base)
