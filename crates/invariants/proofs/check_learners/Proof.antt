@@ -1,0 +1,53 @@
+-- `invariants::check_learners` meets its contract: the soonest of three walks' faults. Assumes nothing.
+use borrow.Author.Needs.{needs}
+use Rattle.idset.specs.Set.{held}
+use Rattle.tracker.specs.Bridge.{confOf}
+use Rattle.invariants.proofs.Parts.{learners-say}
+use Rattle.invariants.proofs.check_learners.Statement.{statement}
+use Rattle.invariants.proofs.check_learners.Tie as tie
+
+first-out-requires : tie.Need-first-out-requires
+first-out-requires c κs = search needs
+
+fault-requires : tie.Need-fault-requires
+fault-requires c κs = search needs
+
+first-in-requires : tie.Need-first-in-requires
+first-in-requires c κs = search needs
+
+fault-requires-2 : tie.Need-fault-requires-2
+fault-requires-2 c κs = search needs
+
+first-in-requires-2 : tie.Need-first-in-requires-2
+first-in-requires-2 c κs = search needs
+
+fault-requires-3 : tie.Need-fault-requires-3
+fault-requires-3 c κs = search needs
+
+sooner-requires : tie.Need-sooner-requires
+sooner-requires c κs = search needs
+
+sooner-requires-2 : tie.Need-sooner-requires-2
+sooner-requires-2 c κs = search needs
+
+returns : tie.Need-returns
+returns c =
+    let b = c .before .before .before .before .before .before .before .before .before .before in
+    let g = b .before .before .before .before .before .before .before .before .before .before .before .before .before .before .before .before .before .before .before .args in
+    learners-say (held (g .t2)) (confOf (g .conf)) (b .before .before .before .before .before .before .before .before .before .first-out .ensures) (b .before .before .before .before .before .before .before .before .fault .ensures)
+    (b .before .first-in .ensures) (b .fault2 .ensures) (c .before .before .before .first-in2 .ensures) (c .before .before .fault3 .ensures)
+    (c .before .sooner .ensures) (c .sooner2 .ensures)
+
+pub check-learners-spec : {M : Type 1} → statement M
+check-learners-spec =
+    tie.close
+    (tie.spec
+    first-out-requires
+    fault-requires
+    first-in-requires
+    fault-requires-2
+    first-in-requires-2
+    fault-requires-3
+    sooner-requires
+    sooner-requires-2
+    returns)

@@ -1,0 +1,39 @@
+-- `invariants::check_voters` meets its contract: the sooner of two walks' faults. Assumes nothing.
+use borrow.Author.Needs.{needs}
+use Rattle.idset.specs.Set.{held}
+use Rattle.tracker.specs.Bridge.{confOf}
+use Rattle.invariants.proofs.Parts.{voters-say}
+use Rattle.invariants.proofs.check_voters.Statement.{statement}
+use Rattle.invariants.proofs.check_voters.Tie as tie
+
+first-out-requires : tie.Need-first-out-requires
+first-out-requires c κs = search needs
+
+fault-requires : tie.Need-fault-requires
+fault-requires c κs = search needs
+
+first-out-requires-2 : tie.Need-first-out-requires-2
+first-out-requires-2 c κs = search needs
+
+fault-requires-2 : tie.Need-fault-requires-2
+fault-requires-2 c κs = search needs
+
+sooner-requires : tie.Need-sooner-requires
+sooner-requires c κs = search needs
+
+returns : tie.Need-returns
+returns c =
+    let g = c .before .before .before .before .before .before .before .before .before .before .before .before .before .before .before .before .before .before .before .args in
+    voters-say (held (g .t2)) (confOf (g .conf)) (c .before .before .before .before .before .before .before .before .before .before .first-out .ensures) (c .before .before .before .before .before .before .before .before .before .fault .ensures)
+    (c .before .before .first-out2 .ensures) (c .before .fault2 .ensures) (c .sooner .ensures)
+
+pub check-voters-spec : {M : Type 1} → statement M
+check-voters-spec =
+    tie.close
+    (tie.spec
+    first-out-requires
+    fault-requires
+    first-out-requires-2
+    fault-requires-2
+    sooner-requires
+    returns)

@@ -1,0 +1,28 @@
+-- `invariants::in_order` meets its contract, one law for each answer. Assumes nothing.
+use borrow.Author.Needs.{needs}
+use Rattle.invariants.proofs.Order.{order-fault, order-zero, order-members}
+use Rattle.invariants.proofs.in_order.Statement.{statement}
+use Rattle.invariants.proofs.in_order.Tie as tie
+
+check-requires : tie.Need-check-requires
+check-requires c κs = search needs
+
+returns : tie.Need-returns
+returns c = search (needs, order-fault)
+
+contains-requires : tie.Need-contains-requires
+contains-requires c κs = search needs
+
+returns-2 : tie.Need-returns-2
+returns-2 c = search (needs, order-zero)
+
+are-members-requires : tie.Need-are-members-requires
+are-members-requires c κs = search needs
+
+returns-3 : tie.Need-returns-3
+returns-3 c = search (needs, order-members)
+
+pub in-order-spec : {M : Type 1} → statement M
+in-order-spec =
+    tie.close
+    (tie.spec check-requires returns contains-requires returns-2 are-members-requires returns-3)

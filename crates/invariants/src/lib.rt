@@ -1,0 +1,234 @@
+// The check, `check_invariants` of src/confchange/changer.rs, and in order. Sets are ascending, so each test walks two of them side by side.
+use idset::IdSet;
+use tracker::Configuration;
+use tracker::Tracker;
+use tracker::Verdict;
+use tracker::numbers;
+ghost use mathlib.Core.Path.{_≡_};
+ghost use lib.ListN.{take};
+ghost use Rattle.idset.specs.Set.{held};
+ghost use Rattle.tracker.specs.Bridge.{confOf};
+ghost use Rattle.tracker.specs.Apply.{verdictOf};
+ghost use Rattle.rules.specs.Check as rules;
+ghost use Rattle.invariants.specs.Walk.{firstOut, firstIn, foundOf, faultIn, soonerOf};
+ghost use Rattle.invariants.specs.Check.{votersWalk, learnersWalk, stagedWalk, singleWalk, checkWalk, areMembers, checkOf, inOrderOf};
+
+// The first id that a walk was looking for, if there is one.
+pub struct Found {
+    pub some: bool,
+    pub id: u64,
+}
+
+// Whether the configuration is joint.
+pub fn joint(conf: Configuration) -> bool
+    ensures { λ r. ⌜ r ≡ rules.joint (confOf conf) ⌝ }
+{
+    !conf.outgoing.is_empty()
+}
+
+// Makes sure that the config and progress are compatible with each other: the first fault, in the order of document 01.
+pub fn check_invariants(conf: Configuration, ids: IdSet) -> Verdict
+    ensures { λ r. ⌜ r ≡ verdictOf (checkWalk (held ids) (confOf conf)) ⌝ }
+{
+    let v = check_voters(conf, ids);
+    if v.number != numbers::ACCEPTED {
+        return v;
+    }
+    let v = check_learners(conf, ids);
+    if v.number != numbers::ACCEPTED {
+        return v;
+    }
+    let v = check_staged(conf, ids);
+    if v.number != numbers::ACCEPTED {
+        return v;
+    }
+    check_single(conf)
+}
+
+// 7: voters of incoming or outgoing, ascending.
+fn check_voters(conf: Configuration, ids: IdSet) -> Verdict
+    ensures { λ r. ⌜ r ≡ verdictOf (votersWalk (held ids) (confOf conf)) ⌝ }
+{
+    let n = ids.len;
+    let a = conf.incoming;
+    let b = conf.outgoing;
+    let v = fault(
+        first_out(&a.ids, a.len, &ids.ids, n),
+        numbers::VOTER_NOT_TRACKED,
+    );
+    let w = fault(
+        first_out(&b.ids, b.len, &ids.ids, n),
+        numbers::VOTER_NOT_TRACKED,
+    );
+    sooner(v, w)
+}
+
+// 8, 9, 10 for each learner.
+fn check_learners(conf: Configuration, ids: IdSet) -> Verdict
+    ensures { λ r. ⌜ r ≡ verdictOf (learnersWalk (held ids) (confOf conf)) ⌝ }
+{
+    let a = conf.learners;
+    let b = conf.outgoing;
+    let c = conf.incoming;
+    let u = fault(
+        first_out(&a.ids, a.len, &ids.ids, ids.len),
+        numbers::LEARNER_NOT_TRACKED,
+    );
+    let v = fault(
+        first_in(&a.ids, a.len, &b.ids, b.len),
+        numbers::LEARNER_IS_OUTGOING,
+    );
+    let w = fault(
+        first_in(&a.ids, a.len, &c.ids, c.len),
+        numbers::LEARNER_IS_INCOMING,
+    );
+    sooner(u, sooner(v, w))
+}
+
+// 11, 12 for each staged id.
+fn check_staged(conf: Configuration, ids: IdSet) -> Verdict
+    ensures { λ r. ⌜ r ≡ verdictOf (stagedWalk (held ids) (confOf conf)) ⌝ }
+{
+    let a = conf.learners_next;
+    let b = conf.outgoing;
+    let v = fault(
+        first_out(&a.ids, a.len, &ids.ids, ids.len),
+        numbers::STAGED_NOT_TRACKED,
+    );
+    let w = fault(
+        first_out(&a.ids, a.len, &b.ids, b.len),
+        numbers::STAGED_NOT_OUTGOING,
+    );
+    sooner(v, w)
+}
+
+// 13, 14: if not joint.
+fn check_single(conf: Configuration) -> Verdict
+    ensures { λ r. ⌜ r ≡ verdictOf (singleWalk (confOf conf)) ⌝ }
+{
+    if joint(conf) {
+        return fault(Found { some: false, id: 0 }, numbers::ACCEPTED);
+    }
+    if !conf.learners_next.is_empty() {
+        return fault(Found { some: true, id: 0 }, numbers::STAGED_WHILE_NOT_JOINT);
+    }
+    fault(
+        Found {
+            some: conf.auto_leave,
+            id: 0,
+        },
+        numbers::AUTO_LEAVE_WHILE_NOT_JOINT,
+    )
+}
+
+// The fault of this number at the id found, if one was.
+fn fault(f: Found, number: u64) -> Verdict
+    ensures { λ r. ⌜ r ≡ faultIn f number ⌝ }
+{
+    if f.some {
+        return Verdict { number, id: f.id };
+    }
+    Verdict {
+        number: numbers::ACCEPTED,
+        id: 0,
+    }
+}
+
+// The fault at the lesser id; the first of the two where both are at one id.
+fn sooner(v: Verdict, w: Verdict) -> Verdict
+    ensures { λ r. ⌜ r ≡ soonerOf v w ⌝ }
+{
+    if v.number == numbers::ACCEPTED {
+        return w;
+    }
+    if w.number == numbers::ACCEPTED {
+        return v;
+    }
+    if w.id < v.id {
+        return w;
+    }
+    v
+}
+
+// The first of the first `m` of `a` that is not among the first `n` of `b`, both ascending and walked side by side.
+pub fn first_out<'a>(a: &'a [u64], m: usize, b: &'a [u64], n: usize) -> Found
+    ensures { λ r. ⌜ r ≡ foundOf (firstOut (take m (now (a .entry))) (take n (now (b .entry)))) ⌝ }
+{
+    let mut j = 0;
+    let mut i = 0;
+    while i < a.len() {
+        if m <= i {
+            return Found { some: false, id: 0 };
+        }
+        let id = a[i];
+        j = idset::seek(b, n, j, id);
+        if !idset::stands_at(b, n, j, id) {
+            return Found { some: true, id };
+        }
+        i += 1;
+    }
+    Found { some: false, id: 0 }
+}
+
+// The first of the first `m` of `a` that is among the first `n` of `b`, both ascending and walked side by side.
+pub fn first_in<'a>(a: &'a [u64], m: usize, b: &'a [u64], n: usize) -> Found
+    ensures { λ r. ⌜ r ≡ foundOf (firstIn (take m (now (a .entry))) (take n (now (b .entry)))) ⌝ }
+{
+    let mut j = 0;
+    let mut i = 0;
+    while i < a.len() {
+        if m <= i {
+            return Found { some: false, id: 0 };
+        }
+        let id = a[i];
+        j = idset::seek(b, n, j, id);
+        if idset::stands_at(b, n, j, id) {
+            return Found { some: true, id };
+        }
+        i += 1;
+    }
+    Found { some: false, id: 0 }
+}
+
+// The check, asked of any state: 1 first.
+pub fn check(t: Tracker) -> Verdict
+    ensures { λ r. ⌜ r ≡ checkOf t ⌝ }
+{
+    if t.is_malformed() {
+        return Verdict {
+            number: numbers::MALFORMED,
+            id: 0,
+        };
+    }
+    let conf = t.conf;
+    let ids = t.ids;
+    check_invariants(conf, ids)
+}
+
+// In order: well formed, passes the check, no id 0 anywhere, tracked ids exactly those in at least one of the four sets.
+pub fn in_order(t: Tracker) -> bool
+    ensures { λ r. ⌜ r ≡ inOrderOf t ⌝ }
+{
+    let v = check(t);
+    if v.number != numbers::ACCEPTED {
+        return false;
+    }
+    let conf = t.conf;
+    let ids = t.ids;
+    if ids.contains(0) {
+        return false;
+    }
+    are_members(conf, ids)
+}
+
+// Whether all of the tracked ids are in at least one of the four sets: a walk along their union.
+fn are_members(conf: Configuration, ids: IdSet) -> bool
+    ensures { λ r. ⌜ r ≡ areMembers (held ids) conf ⌝ }
+{
+    let voters = conf.incoming.union(conf.outgoing);
+    let others = conf.learners.union(conf.learners_next);
+    let all = voters.set.union(others.set);
+    let members = all.set;
+    let out = first_out(&ids.ids, ids.len, &members.ids, members.len);
+    !out.some
+}

@@ -1,0 +1,14 @@
+pub mod Sizes
+pub mod Each
+pub mod Places
+pub mod Confs
+pub mod Peers
+pub mod Logs
+pub mod Bridge
+pub mod Answers
+pub mod PlacesShift
+pub mod PlacesPadded
+pub mod EnrolPeers
+pub mod EnrolEntry
+pub mod EnrolLog
+pub mod EnrolApply

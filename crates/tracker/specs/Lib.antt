@@ -1,0 +1,5 @@
+pub mod Bridge
+pub mod Form
+pub mod Apply
+pub mod ConfStates
+pub mod Enrol
