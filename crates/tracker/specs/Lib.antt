@@ -3,3 +3,4 @@ pub mod Form
 pub mod Apply
 pub mod ConfStates
 pub mod Enrol
+pub mod Examples
