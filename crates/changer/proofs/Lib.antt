@@ -1,0 +1,13 @@
+pub mod Verdicts
+pub mod Pending
+pub mod Carried
+pub mod Changed
+pub mod Gone
+pub mod Left
+pub mod Same
+pub mod Above
+pub mod Tests
+pub mod Tracked
+pub mod Removed
+pub mod Listed
+pub mod Called
