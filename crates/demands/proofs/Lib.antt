@@ -1,0 +1,11 @@
+pub mod Restorable
+pub mod Carried
+pub mod Boxes
+pub mod Others
+pub mod RoundTrip
+pub mod Late
+pub mod Stopped
+pub mod Refused
+pub mod Walked
+pub mod Settled
+pub mod Theorems

@@ -1,0 +1,100 @@
+-- What an accepted list makes of one box: the replay of the changes that name it; and lists with and without a change that names another.
+-- Assumes nothing.
+use Prim.Native.Nat.{ℕ}
+use mathlib.Core.Path.{_≡_, refl, ap, _∙_, sym}
+use mathlib.Core.Bool.{Bool, true, false}
+use mathlib.Core.List.{List, [], _∷_, _++_}
+use native.Mathlib.Omega.{arith}
+use lib.Dec.{eqb}
+use lib.ListN.{length}
+use Rattle.progress.specs.Record.{freshRecord}
+use Rattle.progress.specs.declared.Progress.{Progress}
+use Rattle.rules.specs.State.{Change, formed}
+use Rattle.rules.specs.Calls.{enterJoint, kindOf, listOf, simple}
+use Rattle.rules.specs.Boxes.{Event, entered, naming, replay}
+use Rattle.rules.specs.Answers as R
+use Rattle.rules.specs.Answers.{accepted, refused}
+use Rattle.rules.specs.Restore.{applyAnswer, enterStep, simpleStep}
+use Rattle.rules.proofs.Theorems as rules
+use Rattle.tracker.specs.Apply.{outcomeOf}
+use Rattle.tracker.specs.Bridge.{stateOf}
+use Rattle.tracker.specs.Form.{trackerWellFormed}
+use Rattle.tracker.specs.declared.Outcome.{Outcome}
+use Rattle.tracker.specs.declared.Tracker.{Tracker}
+use Rattle.tracker.proofs.Bridge.{tracker-formed}
+use Rattle.invariants.specs.Check.{inOrderOf}
+use Rattle.changer.specs.Calls.{answerOf, enterAnswer, simpleAnswer}
+use Rattle.restore.specs.Restore.{appliedTo}
+use Rattle.restore.proofs.Applied.{Fits, applied-same, enter-fits, simple-fits}
+use Rattle.demands.specs.Sequences.{boxIn, deedsOf, enterCall, perform, simpleCall}
+use Rattle.demands.specs.Statements.{OthersAlterNeither}
+use Rattle.demands.proofs.Boxes.{one-step, order-formed}
+
+list-append : (xs ys ks ls : List ℕ) → length xs ≡ length ks → listOf (xs ++ ys) (ks ++ ls) ≡ listOf xs ks ++ listOf ys ls
+unfolding listOf
+list-append [] ys [] ls h = refl
+list-append [] ys (k ∷ ks) ls h = absurd (omega arith)
+list-append (x ∷ xs) ys [] ls h = absurd (omega arith)
+list-append (x ∷ xs) ys (k ∷ ks) ls h = ap (λ (l : List Change). record { kind = kindOf k; id = x } ∷ l) (list-append xs ys ks ls (omega arith))
+
+-- a change of y between xs and ys is none of x
+pub other-named : (r : Progress) (x : ℕ) (xs ys ks ls : List ℕ) (y k : ℕ) → length xs ≡ length ks → eqb y x ≡ false
+    → naming r x (listOf (xs ++ (y ∷ ys)) (ks ++ (k ∷ ls))) ≡ naming r x (listOf (xs ++ ys) (ks ++ ls))
+unfolding listOf
+other-named r x xs ys ks ls y k h e =
+    ap (naming r x) (list-append xs (y ∷ ys) ks (k ∷ ls) h)
+    ∙ rules.others-alter-neither r x (listOf xs ks) (listOf ys ls) (record { kind = kindOf k; id = y }) e
+    ∙ ap (naming r x) (sym (list-append xs ys ks ls h))
+
+-- ** An accepted list
+
+module _ (t : Tracker) (h : inOrderOf t ≡ true) (n x : ℕ) where
+  w : trackerWellFormed t ≡ true
+  w = order-formed t h
+
+  f : formed (stateOf t) ≡ true
+  f = tracker-formed t w
+
+  -- an accepted answer is applied
+  applies : (a : R.Answer) → Fits (stateOf t) n a → answerOf (t .conf) a .number ≡ 0 → appliedTo t (answerOf (t .conf) a) n .number ≡ 0
+  unfolding Fits
+  applies a k e = ap (λ (o : Outcome). o .number) (applied-same t w n a k) ∙ go a k e
+    where
+      go : (a : R.Answer) → Fits (stateOf t) n a → answerOf (t .conf) a .number ≡ 0 → outcomeOf (applyAnswer (stateOf t) n a) .number ≡ 0
+      go (accepted c log) k e = rw (k .done)
+      go (refused m y) k e = e
+
+  simple-applies : (ids kinds : List ℕ) → simpleAnswer t ids kinds .number ≡ 0 → appliedTo t (simpleAnswer t ids kinds) n .number ≡ 0
+  unfolding simpleAnswer
+  simple-applies ids kinds e = rw w (applies (simple (stateOf t) ids kinds) (simple-fits (stateOf t) n f ids kinds) (rw w at e))
+
+  enter-applies : (auto : Bool) (ids kinds : List ℕ) → enterAnswer t auto ids kinds .number ≡ 0 → appliedTo t (enterAnswer t auto ids kinds) n .number ≡ 0
+  unfolding enterAnswer
+  enter-applies auto ids kinds e = rw w (applies (enterJoint (stateOf t) auto ids kinds) (enter-fits (stateOf t) n f auto ids kinds) (rw w at e))
+
+  abbrev r : Progress
+  r = freshRecord n (t .«max_inflight»)
+
+  simple-box : (ids kinds : List ℕ) → simpleAnswer t ids kinds .number ≡ 0
+      → boxIn (appliedTo t (simpleAnswer t ids kinds) n .tracker) x ≡ replay (naming r x (listOf ids kinds)) (boxIn t x)
+  unfolding perform deedsOf
+  simple-box ids kinds e = one-step t h (simpleCall ids kinds n) (simpleStep (listOf ids kinds)) n (rw (simple-applies ids kinds e)) x
+
+  enter-box : (auto : Bool) (ids kinds : List ℕ) → enterAnswer t auto ids kinds .number ≡ 0
+      → boxIn (appliedTo t (enterAnswer t auto ids kinds) n .tracker) x ≡ replay (entered ∷ naming r x (listOf ids kinds)) (boxIn t x)
+  unfolding perform deedsOf
+  enter-box auto ids kinds e = one-step t h (enterCall auto ids kinds n) (enterStep auto (listOf ids kinds)) n (rw (enter-applies auto ids kinds e)) x
+
+  pub others : OthersAlterNeither t n x
+  others =
+      record {
+        simple = simple-box;
+        enter = enter-box;
+        others = rules.others-alter-neither r x;
+        simple-same = λ xs ys ks ls y k g e a b.
+            simple-box (xs ++ (y ∷ ys)) (ks ++ (k ∷ ls)) a
+            ∙ ap (λ (es : List Event). replay es (boxIn t x)) (other-named r x xs ys ks ls y k g e) ∙ sym (simple-box (xs ++ ys) (ks ++ ls) b);
+        enter-same = λ auto xs ys ks ls y k g e a b.
+            enter-box auto (xs ++ (y ∷ ys)) (ks ++ (k ∷ ls)) a
+            ∙ ap (λ (es : List Event). replay (entered ∷ es) (boxIn t x)) (other-named r x xs ys ks ls y k g e) ∙ sym (enter-box auto (xs ++ ys) (ks ++ ls) b);
+      }

@@ -1,0 +1,60 @@
+-- What is claimed of the public calls, one theorem for each of the maintainer's sentences. They speak of the definitions that the public
+-- contracts are equal to; the statements are specs/Demands.antt and specs/Statements.antt. Assumes nothing.
+use Prim.Native.Nat.{ℕ}
+use mathlib.Core.Path.{_≡_, ap, _∙_, sym}
+use mathlib.Core.Bool.{true}
+use mathlib.Core.List.{List}
+use lib.Dec.{eqb}
+use Rattle.rules.specs.State.{fresh}
+use Rattle.rules.specs.Calls.{enterJoint, leaveJoint, simple}
+use Rattle.tracker.specs.Bridge.{stateOf, trackerOf}
+use Rattle.tracker.specs.declared.Tracker.{Tracker}
+use Rattle.tracker.specs.declared.Verdict.{Verdict}
+use Rattle.invariants.specs.Check.{inOrderOf}
+use Rattle.changer.specs.Calls.{enterAnswer, leaveAnswer, simpleAnswer}
+use Rattle.demands.specs.Sequences.{Call, afterCalls}
+use Rattle.demands.specs.Demands.{ComesBack, Kept}
+use Rattle.demands.specs.Statements.{OthersAlterNeither, RefusedUntouched}
+use Rattle.demands.proofs.Boxes.{kept}
+use Rattle.demands.proofs.Others.{others}
+use Rattle.demands.proofs.Refused.{applied-untouched, apply-untouched, asked-untouched, restore-stays, restore-untouched, written-nothing}
+use Rattle.demands.proofs.Restorable.{restored-runs}
+use Rattle.demands.proofs.RoundTrip.{reached-back}
+use Rattle.demands.proofs.Settled.{Settled, all-settled}
+
+-- Demand 1: "A refused call gives the number .., with state and lent memory untouched." A restore that a step ends is the exception: the steps
+-- accepted before it stay.
+pub refused-untouched : (t : Tracker) → RefusedUntouched t
+unfolding simpleAnswer enterAnswer leaveAnswer
+refused-untouched t =
+    record {
+      simple = λ ids kinds. asked-untouched t (simple (stateOf t) ids kinds);
+      enter = λ auto ids kinds. asked-untouched t (enterJoint (stateOf t) auto ids kinds);
+      leave = asked-untouched t (leaveJoint (stateOf t));
+      apply-answer = applied-untouched t;
+      apply = apply-untouched t;
+      apply-conf = λ c log n v u p q h. q ∙ apply-untouched t c log n (ap (λ (v : Verdict). eqb (v .number) 0) (sym p) ∙ h);
+      to-conf-state = written-nothing t;
+      restore = restore-untouched t;
+      restore-runs = λ w cs n h. restored-runs t w cs h n;
+      restore-stays = restore-stays t;
+    }
+
+-- Demand 2's last sentence: "A configuration .., written out and restored to fresh, comes back the same." It was reached from fresh by any
+-- calls; fresh is what `Tracker::new` gives.
+pub round-trip : (m l n : ℕ) (cs : List Call) → ComesBack (afterCalls (trackerOf (fresh m)) cs) l n
+round-trip = reached-back
+
+-- Demand 3: after "any sequence of simple, enter, leave and restore calls, refused ones included", made from a state in order, "the tracked boxes
+-- are exactly the members" and "each box's standing and record are what a plain replay of the accepted changes naming that box, with each enter
+-- and leave, gives".
+pub boxes : (t : Tracker) → inOrderOf t ≡ true → (cs : List Call) → Kept t cs
+boxes = kept
+
+-- Demand 3: "In an accepted list, changes naming other boxes alter neither."
+pub others-alter-neither : (t : Tracker) → inOrderOf t ≡ true → (n x : ℕ) → OthersAlterNeither t n x
+others-alter-neither = others
+
+-- Document 01: "That any two results allowed by it are equal is itself proved".
+pub settled : Settled
+settled = all-settled

@@ -1,0 +1,45 @@
+-- The demands as statements about trackers; proofs/Theorems.antt proves them. Assumes nothing.
+use Prim.Native.Nat.{ℕ}
+use mathlib.Core.Path.{_≡_}
+use mathlib.Core.Bool.{true, false}
+use mathlib.Core.List.{List, []}
+use lib.Dec.{eqb}
+use Rattle.progress.specs.Record.{freshRecord}
+use Rattle.rules.specs.Ids.{memb}
+use Rattle.rules.specs.State.{fresh, members}
+use Rattle.rules.specs.Table.{placesOf, placesIn}
+use Rattle.rules.specs.Boxes.{found, recordOf, replay, events}
+use Rattle.idset.specs.Set.{held}
+use Rattle.tracker.specs.Bridge.{confOf, peersOf, trackerOf, changeLogOf}
+use Rattle.tracker.specs.ConfStates.{writtenOf}
+use Rattle.tracker.specs.declared.Tracker.{Tracker}
+use Rattle.tracker.specs.declared.Outcome.{Outcome}
+use Rattle.invariants.specs.Check.{inOrderOf}
+use Rattle.changer.specs.declared.Answer.{Answer}
+use Rattle.restore.specs.Restore.{restoreOf}
+use Rattle.demands.specs.Sequences.{Call, afterCalls, deeds, boxIn}
+
+-- Demand 3. After the calls cs, made from t: the state is in order; "the tracked boxes are exactly the members"; a box's standing tells in which
+-- sets it is; "each box's standing and record are what a plain replay of the accepted changes naming that box, with each enter and leave, gives".
+pub record Kept (t : Tracker) (cs : List Call) : Type 0 where
+  pub ordered : inOrderOf (afterCalls t cs) ≡ true
+  pub tracked : (x : ℕ) → memb x (held (afterCalls t cs .ids)) ≡ memb x (members (confOf (afterCalls t cs .conf)))
+  pub standing : (x : ℕ) → placesIn (memb x (held (afterCalls t cs .ids))) (confOf (afterCalls t cs .conf)) x ≡ placesOf (boxIn (afterCalls t cs) x .standing)
+  pub boxes : (x : ℕ) → boxIn (afterCalls t cs) x ≡ replay (events (t .«max_inflight») x (deeds t cs)) (boxIn t x)
+
+-- Demand 2's last sentence, of the tracker t: written out, and restored to `Tracker::new(l)` with `next_idx` n, it "comes back the same", every box
+-- with a fresh record.
+pub record ComesBack (t : Tracker) (l n : ℕ) : Type 0 where
+  pub written : writtenOf t .number ≡ 0
+  pub accepted : restoreOf (trackerOf (fresh l)) (writtenOf t .«conf_state») n .number ≡ 0
+  pub same : restoreOf (trackerOf (fresh l)) (writtenOf t .«conf_state») n .tracker .conf ≡ t .conf
+  pub tracked : restoreOf (trackerOf (fresh l)) (writtenOf t .«conf_state») n .tracker .ids ≡ t .ids
+  pub records : (x : ℕ) → memb x (held (t .ids)) ≡ true
+      → recordOf x (peersOf (held (t .ids)) (restoreOf (trackerOf (fresh l)) (writtenOf t .«conf_state») n .tracker .records)) ≡ found (freshRecord n l)
+
+-- Demand 1: "A refused call gives the number .., with state and lent memory untouched."
+abbrev pub AnswerUntouched : Tracker → Answer → Type 0
+AnswerUntouched t a = eqb (a .number) 0 ≡ false → (a .conf ≡ t .conf) × (a .log ≡ changeLogOf [])
+
+abbrev pub StateUntouched : Tracker → Outcome → Type 0
+StateUntouched t o = eqb (o .number) 0 ≡ false → o .tracker ≡ t

@@ -1,0 +1,4 @@
+pub mod Sequences
+pub mod Demands
+pub mod Statements
+pub mod Wrong

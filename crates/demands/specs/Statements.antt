@@ -1,0 +1,80 @@
+-- The demands' sentences on refused calls and on changes that name other boxes, as statements about trackers; proofs/Theorems.antt proves
+-- them. Assumes nothing.
+use Prim.Native.Nat.{ℕ, _≤_, _<_}
+use mathlib.Core.Path.{_≡_}
+use mathlib.Core.Bool.{Bool, true, false}
+use mathlib.Core.List.{List, _∷_, _++_}
+use lib.Dec.{eqb}
+use lib.ListN.{length}
+use Rattle.progress.specs.Record.{freshRecord}
+use Rattle.rules.specs.State.{Change}
+use Rattle.rules.specs.Apply.{noConfState}
+use Rattle.rules.specs.Calls.{listOf}
+use Rattle.rules.specs.Restore.{Step, attempt, restoreSteps, run}
+use Rattle.rules.specs.Boxes.{entered, naming, replay}
+use Rattle.tracker.specs.Apply.{applyOf, outcomeOf, verdictIn}
+use Rattle.tracker.specs.Bridge.{confStateOf, listsOf, stateOf}
+use Rattle.tracker.specs.ConfStates.{writtenOf}
+use Rattle.tracker.specs.Form.{trackerWellFormed}
+use Rattle.tracker.specs.declared.ChangeLog.{ChangeLog}
+use Rattle.tracker.specs.declared.ConfState.{ConfState}
+use Rattle.tracker.specs.declared.Configuration.{Configuration}
+use Rattle.tracker.specs.declared.Tracker.{Tracker}
+use Rattle.tracker.specs.declared.Verdict.{Verdict}
+use Rattle.changer.specs.Calls.{enterAnswer, leaveAnswer, simpleAnswer}
+use Rattle.changer.specs.declared.Answer.{Answer}
+use Rattle.restore.specs.Restore.{appliedTo, restoreOf, stepsOf, tooLong}
+use Rattle.demands.specs.Sequences.{boxIn}
+use Rattle.demands.specs.Demands.{AnswerUntouched, StateUntouched}
+
+-- ** Changes that name other boxes
+
+-- The box x of t, and accepted lists applied with `next_idx` n.
+pub record OthersAlterNeither (t : Tracker) (n x : ℕ) : Type 0 where
+  -- its standing and record are then the replay of the changes that name it
+  pub simple : (ids kinds : List ℕ) → simpleAnswer t ids kinds .number ≡ 0
+      → boxIn (appliedTo t (simpleAnswer t ids kinds) n .tracker) x ≡ replay (naming (freshRecord n (t .«max_inflight»)) x (listOf ids kinds)) (boxIn t x)
+  pub enter : (auto : Bool) (ids kinds : List ℕ) → enterAnswer t auto ids kinds .number ≡ 0
+      → boxIn (appliedTo t (enterAnswer t auto ids kinds) n .tracker) x ≡ replay (entered ∷ naming (freshRecord n (t .«max_inflight»)) x (listOf ids kinds)) (boxIn t x)
+  -- of which one that names another box is none, wherever it stands
+  pub others : (cs ds : List Change) (c : Change) → eqb (c .id) x ≡ false
+      → naming (freshRecord n (t .«max_inflight»)) x (cs ++ (c ∷ ds)) ≡ naming (freshRecord n (t .«max_inflight»)) x (cs ++ ds)
+  -- so with such a change, of y and of kind k, and without it the box is left the same
+  pub simple-same : (xs ys ks ls : List ℕ) (y k : ℕ) → length xs ≡ length ks → eqb y x ≡ false
+      → simpleAnswer t (xs ++ (y ∷ ys)) (ks ++ (k ∷ ls)) .number ≡ 0 → simpleAnswer t (xs ++ ys) (ks ++ ls) .number ≡ 0
+      → boxIn (appliedTo t (simpleAnswer t (xs ++ (y ∷ ys)) (ks ++ (k ∷ ls))) n .tracker) x ≡ boxIn (appliedTo t (simpleAnswer t (xs ++ ys) (ks ++ ls)) n .tracker) x
+  pub enter-same : (auto : Bool) (xs ys ks ls : List ℕ) (y k : ℕ) → length xs ≡ length ks → eqb y x ≡ false
+      → enterAnswer t auto (xs ++ (y ∷ ys)) (ks ++ (k ∷ ls)) .number ≡ 0 → enterAnswer t auto (xs ++ ys) (ks ++ ls) .number ≡ 0
+      → boxIn (appliedTo t (enterAnswer t auto (xs ++ (y ∷ ys)) (ks ++ (k ∷ ls))) n .tracker) x ≡ boxIn (appliedTo t (enterAnswer t auto (xs ++ ys) (ks ++ ls)) n .tracker) x
+
+-- ** Refused calls
+
+-- A restore that a step ends: the steps before it were accepted and leave the tracker that is left; the step, asked of that one, is refused
+-- with what restore answers.
+pub record Stays (t : Tracker) (cs : ConfState) (n : ℕ) : Type 0 where
+  pub before : List Step
+  pub step : Step
+  pub after : List Step
+  pub steps : restoreSteps (listsOf cs) ≡ before ++ (step ∷ after)
+  pub stay : stepsOf t n before ≡ record { number = 0; id = 0; tracker = restoreOf t cs n .tracker }
+  pub refused : outcomeOf (attempt n (stateOf (restoreOf t cs n .tracker)) step) ≡ restoreOf t cs n
+
+-- Every public call that can be refused, made of t.
+pub record RefusedUntouched (t : Tracker) : Type 0 where
+  -- changer: the configuration given and an empty log
+  pub simple : (ids kinds : List ℕ) → AnswerUntouched t (simpleAnswer t ids kinds)
+  pub enter : (auto : Bool) (ids kinds : List ℕ) → AnswerUntouched t (enterAnswer t auto ids kinds)
+  pub leave : AnswerUntouched t (leaveAnswer t)
+  -- apply_answer, of any answer; apply
+  pub apply-answer : (a : Answer) (n : ℕ) → StateUntouched t (appliedTo t a n)
+  pub apply : (c : Configuration) (log : ChangeLog) (n : ℕ) → StateUntouched t (applyOf t c log n)
+  -- apply_conf, lent t: it answers v and holds u at exit
+  pub apply-conf : (c : Configuration) (log : ChangeLog) (n : ℕ) (v : Verdict) (u : Tracker)
+      → v ≡ verdictIn (applyOf t c log n) → u ≡ applyOf t c log n .tracker → eqb (v .number) 0 ≡ false → u ≡ t
+  -- to_conf_state: "empty lists and a false flag"
+  pub to-conf-state : eqb (writtenOf t .number) 0 ≡ false → writtenOf t .«conf_state» ≡ confStateOf noConfState
+  -- restore, refused with 1 or 2
+  pub restore : (cs : ConfState) (n : ℕ) → restoreOf t cs n .number ≤ 2 → StateUntouched t (restoreOf t cs n)
+  -- its exception: past 1 and 2 it is the run of its steps; where one of them is refused, those before it stay
+  pub restore-runs : trackerWellFormed t ≡ true → (cs : ConfState) (n : ℕ) → tooLong cs ≡ false → restoreOf t cs n ≡ outcomeOf (run n (stateOf t) (restoreSteps (listsOf cs)))
+  pub restore-stays : (cs : ConfState) (n : ℕ) → 2 < restoreOf t cs n .number → Stays t cs n

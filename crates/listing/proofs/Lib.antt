@@ -1,0 +1,10 @@
+pub mod Cases
+pub mod Places
+pub mod Lines
+pub mod Pending
+pub mod Numbers
+pub mod Turns
+pub mod Answers
+pub mod Sessions
+pub mod Sizes
+pub mod Replay

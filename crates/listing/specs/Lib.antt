@@ -1,0 +1,5 @@
+pub mod Script
+pub mod Lines
+pub mod Listing
+pub mod Examples
+pub mod Sessions
