@@ -1,0 +1,16 @@
+-- `calls::from_written` meets its contract. Assumes nothing.
+use borrow.Author.Needs.{needs}
+use Rattle.calls.proofs.from_written.Statement.{statement}
+use Rattle.calls.proofs.from_written.Tie as tie
+
+to-conf-state-requires : tie.Need-to-conf-state-requires
+to-conf-state-requires c κs = search needs
+
+new-requires : tie.Need-new-requires
+new-requires c κs = search needs
+
+returns : tie.Need-returns
+returns c = cc
+
+pub from-written-spec : {M : Type 1} → statement M
+from-written-spec = tie.close (tie.spec to-conf-state-requires new-requires returns)

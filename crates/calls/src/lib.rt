@@ -1,0 +1,166 @@
+// One call on any state, in bytes: docs/EMBEDDING.md has the layout. This is how another language embeds the library, and how it is compared with
+// the Rust.
+use changer::Answer;
+use tracker::ChangeLog;
+use tracker::ConfState;
+use tracker::Outcome;
+use tracker::Tracker;
+use tracker::Verdict;
+use tracker::apply::apply;
+ghost use mathlib.Core.Path.{_≡_};
+ghost use Prim.Native.Nat.{min};
+ghost use lib.ListN.{length};
+ghost use Rattle.tracker.specs.ConfStates.{writtenOf};
+ghost use Rattle.calls.specs.Call.{fromVerdict, fromAnswer, fromOutcome, fromWritten, reply as replyOf, noLog, noLists, askIn, replyTo, callAnswer, callLeaves};
+
+pub mod read; // a request
+pub mod write; // a reply
+
+// What a call answers.
+pub struct Reply {
+    pub number: u64,
+    pub id: u64,
+    pub yes: bool,
+    pub tracker: Tracker,
+    pub log: ChangeLog,
+    pub conf_state: ConfState,
+}
+
+// The call that a request asks for, its answer written to the front of `reply`: 0. A request of the wrong length: 1; a reply that is too short: 2; an
+// unknown call: 3; a word that no field can hold: 4; the reply is then as it was.
+#[no_mangle]
+pub extern "C" fn dimecandle_call(request: &[u8], reply: &mut [u8]) -> u64
+    ensures { λ r. ⌜ (r ≡ callAnswer (now (request .entry)) (length (now (reply .entry)))) × (now (reply .exit) ≡ callLeaves (now (request .entry)) (now (reply .entry))) ⌝ }
+{
+    if request.len() != 20216 {
+        return 1;
+    }
+    if reply.len() < 13952 {
+        return 2;
+    }
+    if 7 < read::word(request, 0) {
+        return 3;
+    }
+    if !read::holds(request) {
+        return 4;
+    }
+    write::put_reply(reply, reply_to(request));
+    0
+}
+
+fn reply_to(s: &[u8]) -> Reply
+    ensures { λ r. ⌜ r ≡ replyTo (now (s .entry)) ⌝ }
+{
+    let call = read::word(s, 0);
+    let t = read::state(s);
+    if call == 0 {
+        return from_verdict(t, invariants::check(t));
+    }
+    if call == 1 {
+        return from_yes(t, invariants::in_order(t));
+    }
+    if call < 5 {
+        return from_answer(t, ask(s, call, t));
+    }
+    if call == 5 {
+        return from_outcome(apply(t, read::conf(s), read::log(s), read::word(s, 969)));
+    }
+    if call == 6 {
+        return from_written(t);
+    }
+    from_outcome(restore::restore(t, read::conf_state(s), read::word(s, 969)))
+}
+
+// 2 simple, 3 enter_joint, 4 leave_joint.
+fn ask(s: &[u8], call: u64, t: Tracker) -> Answer
+    ensures { λ r. ⌜ r ≡ askIn (now (s .entry)) call t ⌝ }
+{
+    if call == 4 {
+        return changer::leave_joint(t);
+    }
+    let list = read::change_list(s);
+    let ids = list.ids;
+    let kinds = list.kinds;
+    let m = least(list.ids_len);
+    let n = least(list.kinds_len);
+    if call == 2 {
+        return changer::simple(t, &ids[..m], &kinds[..n]);
+    }
+    changer::enter_joint(t, read::word(s, 968) == 1, &ids[..m], &kinds[..n])
+}
+
+fn least(n: usize) -> usize
+    ensures { λ r. ⌜ r ≡ min n 260 ⌝ }
+{
+    if n < 260 { n } else { 260 }
+}
+
+fn from_verdict(t: Tracker, v: Verdict) -> Reply
+    ensures { λ r. ⌜ r ≡ fromVerdict t v ⌝ }
+{
+    reply_of(v.number, v.id, false, t)
+}
+
+fn from_yes(t: Tracker, yes: bool) -> Reply
+    ensures { λ r. ⌜ r ≡ replyOf 0 0 yes t noLog noLists ⌝ }
+{
+    reply_of(0, 0, yes, t)
+}
+
+// Of the answers that give neither log nor lists.
+fn reply_of(number: u64, id: u64, yes: bool, t: Tracker) -> Reply
+    ensures { λ r. ⌜ r ≡ replyOf number id yes t noLog noLists ⌝ }
+{
+    let log = ChangeLog::new();
+    let conf_state = ConfState::new();
+    Reply {
+        number,
+        id,
+        yes,
+        tracker: t,
+        log,
+        conf_state,
+    }
+}
+
+// The state given, with the answered configuration.
+fn from_answer(t: Tracker, a: Answer) -> Reply
+    ensures { λ r. ⌜ r ≡ fromAnswer t a ⌝ }
+{
+    let mut tracker = t;
+    let conf = a.conf;
+    tracker.conf = conf;
+    let log = a.log;
+    let conf_state = ConfState::new();
+    Reply {
+        number: a.number,
+        id: a.id,
+        yes: false,
+        tracker,
+        log,
+        conf_state,
+    }
+}
+
+fn from_outcome(o: Outcome) -> Reply
+    ensures { λ r. ⌜ r ≡ fromOutcome o ⌝ }
+{
+    let tracker = o.tracker;
+    reply_of(o.number, o.id, false, tracker)
+}
+
+fn from_written(t: Tracker) -> Reply
+    ensures { λ r. ⌜ r ≡ fromWritten t (writtenOf t) ⌝ }
+{
+    let w = t.to_conf_state();
+    let log = ChangeLog::new();
+    let conf_state = w.conf_state;
+    Reply {
+        number: w.number,
+        id: w.id,
+        yes: false,
+        tracker: t,
+        log,
+        conf_state,
+    }
+}

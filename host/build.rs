@@ -1,0 +1,98 @@
+//! Finds the Rust text and the static libraries.
+//!
+//! The text: the folder named by RAFT_SRC, else `../shared/docs/src/src` beside the repository. Each of its files is compiled where it
+//! stands; OUT_DIR gets symbolic links to them, in the layout that rustc looks for. With it, `--cfg rust_text`.
+//!
+//! The libraries: `libcalls.a` and `liblisting.a` in the folder named by DIMECANDLE_LIBS, else in the repository's target/staticlib.
+//! With one, `--cfg libcalls` or `--cfg liblisting`; without it the model of the paper stands in its place.
+
+use std::env;
+use std::fs;
+use std::os::unix::fs::symlink;
+use std::path::{Path, PathBuf};
+
+/// The files of the text, and where each stands for rustc: a module that is named by `#[path]` has its own modules beside it.
+const TEXT: [(&str, &str); 8] = [
+    ("confchange.rs", "confchange/mod.rs"),
+    ("confchange/changer.rs", "confchange/changer.rs"),
+    ("confchange/restore.rs", "confchange/restore.rs"),
+    ("tracker.rs", "tracker/mod.rs"),
+    ("tracker/progress.rs", "tracker/progress.rs"),
+    ("tracker/state.rs", "tracker/state.rs"),
+    ("tracker/inflights.rs", "tracker/inflights.rs"),
+    ("quorum.rs", "quorum/mod.rs"),
+];
+
+/// Files of the text that get a door behind them.
+const DOORS: [(&str, &str); 2] = [("confchange/changer.rs", "changer.rs"), ("tracker/inflights.rs", "inflights.rs")];
+
+/// Modules that the text declares and that are not at hand.
+const STAND_INS: [&str; 2] = ["quorum/joint.rs", "quorum/majority.rs"];
+
+fn main() {
+    for name in ["rust_text", "libcalls", "liblisting"] {
+        println!("cargo::rustc-check-cfg=cfg({name})");
+    }
+    let package = PathBuf::from(env::var_os("CARGO_MANIFEST_DIR").expect("cargo names the package"));
+    text(&package);
+    for name in ["calls", "listing"] {
+        library(&package, name);
+    }
+}
+
+/// The folder that a variable names, else a usual one.
+fn folder(package: &Path, variable: &str, usual: &str) -> PathBuf {
+    println!("cargo::rerun-if-env-changed={variable}");
+    match env::var_os(variable) {
+        Some(named) => PathBuf::from(named),
+        None => package.join(usual),
+    }
+}
+
+fn text(package: &Path) {
+    let source = folder(package, "RAFT_SRC", "../../shared/docs/src/src");
+    println!("cargo::rustc-env=RAFT_SRC_TRIED={}", source.display());
+    for (file, _) in TEXT {
+        println!("cargo::rerun-if-changed={}", source.join(file).display());
+    }
+    let Ok(source) = source.canonicalize() else { return };
+    if TEXT.iter().all(|(file, _)| source.join(file).is_file()) {
+        lay_out(package, &source);
+        println!("cargo::rustc-cfg=rust_text");
+    }
+}
+
+fn lay_out(package: &Path, source: &Path) {
+    let text = PathBuf::from(env::var_os("OUT_DIR").expect("cargo names it")).join("text");
+    let _ = fs::remove_dir_all(&text);
+    for part in ["confchange", "tracker", "quorum"] {
+        fs::create_dir_all(text.join(part)).expect("OUT_DIR can be written");
+    }
+    for (file, place) in TEXT {
+        match DOORS.iter().find(|(with_door, _)| *with_door == file) {
+            None => symlink(source.join(file), text.join(place)).expect("a symbolic link"),
+            Some((_, door)) => {
+                let door = package.join("src/raft/doors").join(door);
+                let both = format!("include!({:?});\ninclude!({:?});\n", source.join(file), door);
+                fs::write(text.join(place), both).expect("OUT_DIR can be written");
+            }
+        }
+    }
+    for file in STAND_INS {
+        symlink(package.join("src/raft").join(file), text.join(file)).expect("a symbolic link");
+    }
+    let modules: String = ["confchange", "quorum", "tracker"]
+        .iter()
+        .map(|name| format!("#[path = {:?}]\nmod {name};\n", text.join(name).join("mod.rs")))
+        .collect();
+    fs::write(text.join("modules.rs"), modules).expect("OUT_DIR can be written");
+}
+
+fn library(package: &Path, name: &str) {
+    let file = folder(package, "DIMECANDLE_LIBS", "../target/staticlib").join(format!("lib{name}.a"));
+    println!("cargo::rerun-if-changed={}", file.display());
+    if let Ok(file) = file.canonicalize() {
+        println!("cargo::rustc-cfg=lib{name}");
+        println!("cargo::rustc-link-arg-bins={}", file.display());
+    }
+}

@@ -1,0 +1,249 @@
+//! Times both sides on the same calls and scripts. The Rust is asked on its own values; the other side is asked through its C entries, so
+//! a call's time has the reading of the request's 20,216 bytes and the writing of the reply's 13,952 in it. A script has neither.
+//! Times are of the processor, so that other programs on the machine do not count; the shortest of many batches is shown.
+
+use crate::calls::{APPLY_CONF, CHECK, ENTER_JOINT, LEAVE_JOINT, RESTORE, SIMPLE};
+use crate::compare::Comparison;
+use crate::groups::scripts::script;
+use crate::oracle::{self, Replaying};
+use crate::script::{listing, ENTER, LEAVE, LONGEST_SCRIPT, RECORD, SIMPLE as RUN};
+use crate::subject::{Linked, Subject, CALLS_LINKED, LISTING_LINKED};
+use crate::words::{Block, Change, Ids, List, Record, Request, ADD_LEARNER_NODE, ADD_NODE, REMOVE_NODE, REPLY_BYTES};
+use raft::eraftpb::ConfChangeSingle;
+use raft::{Changer, ProgressTracker};
+use std::hint::black_box;
+use std::process::ExitCode;
+use std::time::Duration;
+
+pub fn run() -> ExitCode {
+    for (linked, name) in [(CALLS_LINKED, "libcalls.a"), (LISTING_LINKED, "liblisting.a")] {
+        if !linked {
+            println!("{name} was not found when this was built: its times are those of the model of the paper");
+        }
+    }
+    println!("{:52}{:>12}{:>12}{:>9}", "", "Rust", "other", "ratio");
+    the_layout();
+    for size in [3, 5, 16, 64] {
+        simple_and_apply(size);
+        enter_and_leave(size);
+        restore(size);
+        restore_joint(size);
+        scripts(size);
+    }
+    ExitCode::SUCCESS
+}
+
+/// The shortest time of one of so many things done by `work`, over many batches of some two milliseconds.
+fn time(things: usize, mut work: impl FnMut()) -> Duration {
+    let mut batch = 1;
+    let mut best = Duration::MAX;
+    let begin = processor_time();
+    while processor_time() - begin < Duration::from_millis(400) {
+        let start = processor_time();
+        for _ in 0..batch {
+            work();
+        }
+        let took = processor_time() - start;
+        best = best.min(took / batch / things as u32);
+        if took < Duration::from_millis(2) {
+            batch *= 2;
+        }
+    }
+    best
+}
+
+/// What this thread has had of the processor.
+fn processor_time() -> Duration {
+    #[repr(C)]
+    struct Timespec {
+        seconds: i64,
+        nanoseconds: i64,
+    }
+    const CLOCK_THREAD_CPUTIME_ID: i32 = 3;
+    extern "C" {
+        fn clock_gettime(clock: i32, time: *mut Timespec) -> i32;
+    }
+    let mut time = Timespec { seconds: 0, nanoseconds: 0 };
+    let status = unsafe { clock_gettime(CLOCK_THREAD_CPUTIME_ID, &mut time) };
+    assert_eq!(status, 0, "Linux has this clock");
+    Duration::new(time.seconds as u64, time.nanoseconds as u32)
+}
+
+fn report(name: &str, rust: Duration, other: Duration) {
+    let micros = |time: Duration| time.as_secs_f64() * 1e6;
+    let ratio = micros(other) / micros(rust);
+    println!("{name:52}{:>9.2} µs{:>9.2} µs{ratio:>9.2}", micros(rust), micros(other));
+}
+
+// ** Calls
+
+/// A group of voters, each with a record, `max_inflight` 256.
+fn group(size: usize) -> Box<Request> {
+    let mut request = Request::new(0);
+    let voters: Vec<u64> = (1..=size as u64).collect();
+    request.state.conf.incoming = Ids::of(&voters);
+    request.state.tracked = Ids::of(&voters);
+    for record in &mut request.state.records[..size] {
+        *record = Record { matched: 5, next_idx: 6, recent_active: 1, max_inflight: 256, ..Record::zero() };
+    }
+    request.state.max_inflight = 256;
+    request.next_idx = 10;
+    request
+}
+
+/// What a call costs that has next to nothing to do: reading and writing the words.
+fn the_layout() {
+    let request = Request::new(CHECK);
+    let tracker = ProgressTracker::new(0);
+    let rust = time(1, || {
+        let _ = black_box(Changer::new(black_box(&tracker)).check());
+    });
+    let mut reply = vec![0; REPLY_BYTES];
+    let other = time(1, || {
+        Linked.call(black_box(request.bytes()), &mut reply);
+        black_box(&reply);
+    });
+    report("check of the fresh state: the words alone", rust, other);
+}
+
+/// A call of a cycle; each is followed by its `apply_conf`.
+enum Step {
+    Simple(Change),
+    Enter(Change),
+    Leave,
+}
+
+/// Removes the last voter and adds it again: back at the beginning after two calls.
+fn simple_and_apply(size: usize) {
+    let last = size as u64;
+    let steps = [Step::Simple((last, REMOVE_NODE)), Step::Simple((last, ADD_NODE))];
+    cycle(&format!("simple+apply, group of {size}"), size, &steps, 2);
+}
+
+/// Makes the last voter a learner by way of a joint configuration, and a voter again.
+fn enter_and_leave(size: usize) {
+    let last = size as u64;
+    let steps = [Step::Enter((last, ADD_LEARNER_NODE)), Step::Leave, Step::Enter((last, ADD_NODE)), Step::Leave];
+    cycle(&format!("enter+apply+leave+apply, group of {size}"), size, &steps, 2);
+}
+
+fn cycle(name: &str, size: usize, steps: &[Step], things: usize) {
+    let start = group(size);
+    let mut tracker = oracle::tracker(&start.state);
+    let lists: Vec<Vec<ConfChangeSingle>> = steps.iter().map(|step| oracle::changes(list(step))).collect();
+    let rust = time(things, || {
+        for (step, list) in steps.iter().zip(&lists) {
+            rust_step(&mut tracker, step, black_box(list));
+        }
+    });
+    let requests = requests(start, steps);
+    let mut reply = vec![0; REPLY_BYTES];
+    let other = time(things, || {
+        for request in &requests {
+            Linked.call(black_box(request.bytes()), &mut reply);
+            black_box(&reply);
+        }
+    });
+    report(name, rust, other);
+}
+
+fn list(step: &Step) -> Vec<Change> {
+    match step {
+        Step::Simple(change) | Step::Enter(change) => vec![*change],
+        Step::Leave => vec![],
+    }
+}
+
+fn rust_step(tracker: &mut ProgressTracker, step: &Step, list: &[ConfChangeSingle]) {
+    let mut changer = Changer::new(tracker);
+    let answer = match step {
+        Step::Simple(_) => changer.simple(list),
+        Step::Enter(_) => changer.enter_joint(false, list),
+        Step::Leave => changer.leave_joint(),
+    };
+    let (conf, log) = answer.expect("the cycle is accepted");
+    tracker.apply_conf(conf, log, 10);
+}
+
+/// The requests of a cycle, each with the state that the one before left.
+fn requests(start: Box<Request>, steps: &[Step]) -> Vec<Box<Request>> {
+    let mut comparison = Comparison::new(&Linked);
+    let (mut request, mut all) = (start, vec![]);
+    for step in steps {
+        request.call = match step {
+            Step::Simple(_) => SIMPLE,
+            Step::Enter(_) => ENTER_JOINT,
+            Step::Leave => LEAVE_JOINT,
+        };
+        request.list = List::of(&list(step));
+        let answer = *comparison.expected(&request).0;
+        all.push(request.clone());
+        request.call = APPLY_CONF;
+        (request.conf, request.log) = (answer.state.conf, answer.log);
+        all.push(request.clone());
+        request.state = comparison.expected(&request).0.state;
+    }
+    all
+}
+
+fn restore(size: usize) {
+    let mut request = Request::new(RESTORE);
+    request.conf_state.voters = group(size).state.conf.incoming;
+    restoring(&format!("restore, {size} voters"), request);
+}
+
+/// Half of the group goes out; a learner is staged.
+fn restore_joint(size: usize) {
+    let all: Vec<u64> = (1..=size as u64).collect();
+    let mut request = Request::new(RESTORE);
+    request.conf_state.voters = Ids::of(&all[size / 2..]);
+    request.conf_state.voters_outgoing = Ids::of(&all[..size - 1]);
+    request.conf_state.learners_next = Ids::of(&all[..1]);
+    restoring(&format!("restore, joint group of {size}"), request);
+}
+
+fn restoring(name: &str, mut request: Box<Request>) {
+    request.state.max_inflight = 256;
+    request.next_idx = 10;
+    let lists = oracle::conf_state(&request.conf_state);
+    let rust = time(1, || {
+        let mut tracker = ProgressTracker::new(256);
+        raft::restore(&mut tracker, 10, black_box(&lists)).expect("the lists are accepted");
+        black_box(&tracker);
+    });
+    let mut reply = vec![0; REPLY_BYTES];
+    let other = time(1, || {
+        Linked.call(black_box(request.bytes()), &mut reply);
+        black_box(&reply);
+    });
+    report(name, rust, other);
+}
+
+// ** Scripts
+
+/// The same cycles as scripts of the greatest length, from the first voter on; the time is that of one call with its line.
+fn scripts(size: usize) {
+    let last = size as u64;
+    let simple = [(1, last), (RUN, 10), (0, last), (RUN, 10)];
+    let joint = [(2, last), (ENTER, 10), (LEAVE, 10), (0, last), (ENTER, 10), (LEAVE, 10)];
+    replaying(&format!("script of simple, a line, group of {size}"), size, &simple);
+    replaying(&format!("script of enter and leave, a line, group of {size}"), size, &joint);
+}
+
+fn replaying(name: &str, size: usize, cycle: &[(u8, u64)]) {
+    let mut records: Vec<(u8, u64)> = (1..=size as u64).flat_map(|id| [(0, id), (RUN, 10)]).collect();
+    while records.len() + cycle.len() <= LONGEST_SCRIPT / RECORD {
+        records.extend(cycle);
+    }
+    let bytes = script(&records);
+    let text = listing(&bytes, &mut Replaying::plain());
+    let lines = text.iter().filter(|&&byte| byte == b'\n').count();
+    let rust = time(lines, || {
+        black_box(listing(black_box(&bytes), &mut Replaying::plain()));
+    });
+    let mut out = vec![0; text.len()];
+    let other = time(lines, || {
+        assert_eq!(Linked.replay(black_box(&bytes), &mut out), text.len() as u64);
+    });
+    report(name, rust, other);
+}

@@ -1,0 +1,435 @@
+//! Raft membership from Rust, by the proved library: link `libcalls.a`, and take this one file.
+//!
+//! ```ignore
+//! mod dimecandle;
+//! use dimecandle::{ConfChangeSingle, Refused, Tracker};
+//!
+//! fn add_first_voter() -> Result<Tracker, Refused> {
+//!     let mut tracker = Tracker::new(256);
+//!     let (conf, changes) = tracker.simple(&[ConfChangeSingle::add_node(1)])?;
+//!     tracker.apply_conf(conf, changes, 10)?;
+//!     Ok(tracker)
+//! }
+//! ```
+//!
+//! The names are those of crate raft 0.7.0: what `Changer::new(&tracker).simple(..)` is there, `tracker.simple(..)` is here. Every function
+//! answers for every input; none panics, and a refusal leaves the tracker as it was. One exception is `restore`, whose accepted steps
+//! stay. A set or the tracked ids may hold at most 64 ids, a list of changes and a log 256 entries; longer ones are refused.
+
+#![allow(dead_code)]
+
+use std::collections::{BTreeMap, BTreeSet};
+use std::fmt;
+
+/// What a tracker knows of one box. `max_inflight` stands in the place of the Rust's `ins`.
+#[derive(Clone, Copy, Debug, Default, PartialEq, Eq)]
+pub struct Progress {
+    pub matched: u64,
+    pub next_idx: u64,
+    pub state: ProgressState,
+    pub paused: bool,
+    pub pending_snapshot: u64,
+    pub pending_request_snapshot: u64,
+    pub recent_active: bool,
+    pub max_inflight: u64,
+    pub commit_group_id: u64,
+    pub committed_index: u64,
+}
+
+#[derive(Clone, Copy, Debug, Default, PartialEq, Eq)]
+pub enum ProgressState {
+    #[default]
+    Probe,
+    Replicate,
+    Snapshot,
+}
+
+/// The four sets of ids, and the flag. `incoming` and `outgoing` are the two halves of the Rust's `voters`.
+#[derive(Clone, Debug, Default, PartialEq, Eq)]
+pub struct Configuration {
+    pub incoming: BTreeSet<u64>,
+    pub outgoing: BTreeSet<u64>,
+    pub learners: BTreeSet<u64>,
+    pub learners_next: BTreeSet<u64>,
+    pub auto_leave: bool,
+}
+
+/// What the Rust calls `ProgressTracker`: the configuration, and the boxes that are tracked.
+#[derive(Clone, Debug, Default, PartialEq, Eq)]
+pub struct Tracker {
+    pub conf: Configuration,
+    pub progress: BTreeMap<u64, Progress>,
+    pub max_inflight: u64,
+}
+
+/// A configuration as it is stored: lists in any order.
+#[derive(Clone, Debug, Default, PartialEq, Eq)]
+pub struct ConfState {
+    pub voters: Vec<u64>,
+    pub learners: Vec<u64>,
+    pub voters_outgoing: Vec<u64>,
+    pub learners_next: Vec<u64>,
+    pub auto_leave: bool,
+}
+
+#[derive(Clone, Copy, Debug, PartialEq, Eq)]
+pub enum ConfChangeType {
+    AddNode,
+    RemoveNode,
+    AddLearnerNode,
+}
+
+/// One change of a list. A change with `node_id` 0 is skipped.
+#[derive(Clone, Copy, Debug, PartialEq, Eq)]
+pub struct ConfChangeSingle {
+    pub node_id: u64,
+    pub change_type: ConfChangeType,
+}
+
+impl ConfChangeSingle {
+    pub fn add_node(node_id: u64) -> Self {
+        ConfChangeSingle { node_id, change_type: ConfChangeType::AddNode }
+    }
+
+    pub fn remove_node(node_id: u64) -> Self {
+        ConfChangeSingle { node_id, change_type: ConfChangeType::RemoveNode }
+    }
+
+    pub fn add_learner_node(node_id: u64) -> Self {
+        ConfChangeSingle { node_id, change_type: ConfChangeType::AddLearnerNode }
+    }
+}
+
+#[derive(Clone, Copy, Debug, PartialEq, Eq)]
+pub enum MapChangeType {
+    Add,
+    Remove,
+}
+
+/// Which boxes an answer begins or ceases to track, in order: for `apply_conf`.
+pub type MapChange = Vec<(u64, MapChangeType)>;
+
+/// Why a call was refused: the number, and the id that it concerns, else 0. `to_string` says it in words.
+#[derive(Clone, Copy, Debug, PartialEq, Eq)]
+pub struct Refused {
+    pub number: u64,
+    pub id: u64,
+}
+
+impl fmt::Display for Refused {
+    fn fmt(&self, f: &mut fmt::Formatter<'_>) -> fmt::Result {
+        let id = self.id;
+        match self.number {
+            1 => write!(f, "the state, the configuration or the log is malformed"),
+            2 => write!(f, "a list is too long, or its ids and kinds are not equally many"),
+            3 => write!(f, "a change has a kind above 2"),
+            4 => write!(f, "a joint configuration cannot be entered from a joint one"),
+            5 => write!(f, "a configuration that is not joint cannot be left"),
+            6 => write!(f, "a simple change cannot be made in a joint configuration"),
+            7 => write!(f, "voter {id} is not tracked"),
+            8 => write!(f, "learner {id} is not tracked"),
+            9 => write!(f, "learner {id} is an outgoing voter"),
+            10 => write!(f, "learner {id} is an incoming voter"),
+            11 => write!(f, "staged learner {id} is not tracked"),
+            12 => write!(f, "staged learner {id} is not an outgoing voter"),
+            13 => write!(f, "there are staged learners though the configuration is not joint"),
+            14 => write!(f, "auto_leave is set though the configuration is not joint"),
+            15 => write!(f, "a joint configuration cannot be entered without an incoming voter"),
+            16 => write!(f, "{id} cannot be tracked: 64 ids are"),
+            17 => write!(f, "no incoming voter would be left"),
+            18 => write!(f, "more than one voter would change: enter a joint configuration for that"),
+            19 => write!(f, "the script is longer than 65,536 bytes"),
+            20 => write!(f, "the listing is longer than the output lent for it"),
+            number => write!(f, "refused with {number}"),
+        }
+    }
+}
+
+impl std::error::Error for Refused {}
+
+impl Tracker {
+    /// Nothing in any set, nothing tracked.
+    pub fn new(max_inflight: u64) -> Tracker {
+        Tracker { max_inflight, ..Tracker::default() }
+    }
+
+    /// A list of changes that changes at most one incoming voter in all. The answer is the new configuration and what to track, for
+    /// `apply_conf`; the tracker itself stays as it is.
+    pub fn simple(&self, changes: &[ConfChangeSingle]) -> Result<(Configuration, MapChange), Refused> {
+        let mut request = Request::of(SIMPLE, self);
+        request.list(changes);
+        Ok(request.answer()?.configuration_and_log())
+    }
+
+    /// Enters a joint configuration by a list of changes. Answers as `simple` does.
+    pub fn enter_joint(&self, auto_leave: bool, changes: &[ConfChangeSingle]) -> Result<(Configuration, MapChange), Refused> {
+        let mut request = Request::of(ENTER_JOINT, self);
+        request.words[REQUEST_FLAG] = u64::from(auto_leave);
+        request.list(changes);
+        Ok(request.answer()?.configuration_and_log())
+    }
+
+    /// Leaves a joint configuration. Answers as `simple` does.
+    pub fn leave_joint(&self) -> Result<(Configuration, MapChange), Refused> {
+        Ok(Request::of(LEAVE_JOINT, self).answer()?.configuration_and_log())
+    }
+
+    /// Takes over an answer: the configuration, and a fresh record, with this `next_idx`, for each box that is added.
+    pub fn apply_conf(&mut self, conf: Configuration, changes: MapChange, next_idx: u64) -> Result<(), Refused> {
+        let mut request = Request::of(APPLY_CONF, self);
+        request.words[REQUEST_NEXT_IDX] = next_idx;
+        put_configuration(&mut request.words[REQUEST_CONF..], &conf);
+        put_log(&mut request.words[REQUEST_LOG..], &changes);
+        let reply = request.answer()?;
+        *self = reply.tracker();
+        Ok(())
+    }
+
+    /// Runs the changes that make the configuration of a `ConfState`, each applied with this `next_idx`. Where a step is refused the
+    /// earlier ones stay.
+    pub fn restore(&mut self, next_idx: u64, state: &ConfState) -> Result<(), Refused> {
+        let mut request = Request::of(RESTORE, self);
+        request.words[REQUEST_NEXT_IDX] = next_idx;
+        put_conf_state(&mut request.words[REQUEST_CONF_STATE..], state);
+        let (reply, refused) = request.run();
+        if reply.words[REPLY_NUMBER] != MALFORMED {
+            *self = reply.tracker();
+        }
+        refused
+    }
+
+    /// The configuration as it is stored: ascending lists.
+    pub fn to_conf_state(&self) -> Result<ConfState, Refused> {
+        Ok(Request::of(TO_CONF_STATE, self).answer()?.conf_state())
+    }
+
+    /// Whether configuration and tracked boxes go together; each other call asks this first.
+    pub fn check(&self) -> Result<(), Refused> {
+        Request::of(CHECK, self).answer().map(|_| ())
+    }
+
+    /// Whether the check passes, no id is 0, and the tracked boxes are exactly those in one of the four sets. Every state reached from
+    /// a new one by these calls is.
+    pub fn in_order(&self) -> bool {
+        let (reply, _) = Request::of(IN_ORDER, self).run();
+        reply.words[REPLY_YES] == 1
+    }
+}
+
+// ** The entry, and its words: docs/EMBEDDING.md
+
+unsafe extern "C" {
+    fn dimecandle_call(request: *const u8, request_len: usize, reply: *mut u8, reply_len: usize) -> u64;
+}
+
+#[cfg(not(all(target_arch = "x86_64", target_endian = "little")))]
+compile_error!("libcalls.a is for x86-64");
+
+const CHECK: u64 = 0;
+const IN_ORDER: u64 = 1;
+const SIMPLE: u64 = 2;
+const ENTER_JOINT: u64 = 3;
+const LEAVE_JOINT: u64 = 4;
+const APPLY_CONF: u64 = 5;
+const TO_CONF_STATE: u64 = 6;
+const RESTORE: u64 = 7;
+
+const MALFORMED: u64 = 1;
+
+const IDS: usize = 64;
+const SET: usize = IDS + 1;
+const CONF: usize = 4 * SET + 1;
+const RECORD: usize = 10;
+const STATE: usize = CONF + SET + IDS * RECORD + 1;
+const LIST_PLACES: usize = 260;
+const LIST: usize = 2 * (LIST_PLACES + 1);
+const LONGEST_LIST: usize = 256;
+const LOG_PLACES: usize = 256;
+const LOG: usize = 2 * LOG_PLACES + 1;
+
+const REQUEST_CALL: usize = 0;
+const REQUEST_STATE: usize = 1;
+const REQUEST_FLAG: usize = REQUEST_STATE + STATE;
+const REQUEST_NEXT_IDX: usize = REQUEST_FLAG + 1;
+const REQUEST_LIST: usize = REQUEST_NEXT_IDX + 1;
+const REQUEST_CONF: usize = REQUEST_LIST + LIST;
+const REQUEST_LOG: usize = REQUEST_CONF + CONF;
+const REQUEST_CONF_STATE: usize = REQUEST_LOG + LOG;
+const REQUEST: usize = REQUEST_CONF_STATE + CONF;
+
+const REPLY_NUMBER: usize = 0;
+const REPLY_ID: usize = 1;
+const REPLY_YES: usize = 2;
+const REPLY_STATE: usize = 3;
+const REPLY_LOG: usize = REPLY_STATE + STATE;
+const REPLY_CONF_STATE: usize = REPLY_LOG + LOG;
+const REPLY: usize = REPLY_CONF_STATE + CONF;
+
+const _: () = assert!(REQUEST == 2_527 && REPLY == 1_744);
+
+struct Request {
+    words: Vec<u64>,
+}
+
+struct Reply {
+    words: Vec<u64>,
+}
+
+impl Request {
+    fn of(call: u64, tracker: &Tracker) -> Request {
+        let mut words = vec![0; REQUEST];
+        words[REQUEST_CALL] = call;
+        put_tracker(&mut words[REQUEST_STATE..], tracker);
+        Request { words }
+    }
+
+    /// Of a list that is too long as much as shows it.
+    fn list(&mut self, changes: &[ConfChangeSingle]) {
+        let list = &mut self.words[REQUEST_LIST..];
+        let shown = &changes[..changes.len().min(LONGEST_LIST + 1)];
+        for (place, change) in shown.iter().enumerate() {
+            list[place] = change.node_id;
+            list[LIST_PLACES + 1 + place] = change.change_type as u64;
+        }
+        list[LIST_PLACES] = shown.len() as u64;
+        list[2 * LIST_PLACES + 1] = shown.len() as u64;
+    }
+
+    /// The reply, and the refusal that it holds.
+    fn run(&self) -> (Reply, Result<(), Refused>) {
+        let mut words = vec![0u64; REPLY];
+        // the entry reads the one and writes the other, each over its whole length
+        let done = unsafe { dimecandle_call(self.words.as_ptr().cast(), REQUEST * 8, words.as_mut_ptr().cast(), REPLY * 8) };
+        assert_eq!(done, 0, "libcalls.a has another layout than this file");
+        let refused = match words[REPLY_NUMBER] {
+            0 => Ok(()),
+            number => Err(Refused { number, id: words[REPLY_ID] }),
+        };
+        (Reply { words }, refused)
+    }
+
+    fn answer(&self) -> Result<Reply, Refused> {
+        let (reply, refused) = self.run();
+        refused.map(|()| reply)
+    }
+}
+
+impl Reply {
+    fn configuration_and_log(&self) -> (Configuration, MapChange) {
+        (configuration(&self.words[REPLY_STATE..]), log(&self.words[REPLY_LOG..]))
+    }
+
+    fn tracker(&self) -> Tracker {
+        tracker(&self.words[REPLY_STATE..])
+    }
+
+    fn conf_state(&self) -> ConfState {
+        let lists = &self.words[REPLY_CONF_STATE..];
+        ConfState {
+            voters: ids(lists).to_vec(),
+            learners: ids(&lists[SET..]).to_vec(),
+            voters_outgoing: ids(&lists[2 * SET..]).to_vec(),
+            learners_next: ids(&lists[3 * SET..]).to_vec(),
+            auto_leave: lists[4 * SET] == 1,
+        }
+    }
+}
+
+/// Of more than 64 ids the first 64, with a count that says so: the library refuses it.
+fn put_ids<'a>(words: &mut [u64], ids: impl ExactSizeIterator<Item = &'a u64>) {
+    words[IDS] = ids.len() as u64;
+    for (word, id) in words[..IDS].iter_mut().zip(ids) {
+        *word = *id;
+    }
+}
+
+fn ids(words: &[u64]) -> &[u64] {
+    &words[..words[IDS] as usize]
+}
+
+fn set(words: &[u64]) -> BTreeSet<u64> {
+    ids(words).iter().copied().collect()
+}
+
+fn put_configuration(words: &mut [u64], conf: &Configuration) {
+    for (at, set) in [&conf.incoming, &conf.outgoing, &conf.learners, &conf.learners_next].into_iter().enumerate() {
+        put_ids(&mut words[at * SET..], set.iter());
+    }
+    words[4 * SET] = u64::from(conf.auto_leave);
+}
+
+fn configuration(words: &[u64]) -> Configuration {
+    Configuration {
+        incoming: set(words),
+        outgoing: set(&words[SET..]),
+        learners: set(&words[2 * SET..]),
+        learners_next: set(&words[3 * SET..]),
+        auto_leave: words[4 * SET] == 1,
+    }
+}
+
+fn put_conf_state(words: &mut [u64], state: &ConfState) {
+    for (at, list) in [&state.voters, &state.learners, &state.voters_outgoing, &state.learners_next].into_iter().enumerate() {
+        put_ids(&mut words[at * SET..], list.iter());
+    }
+    words[4 * SET] = u64::from(state.auto_leave);
+}
+
+fn put_log(words: &mut [u64], log: &MapChange) {
+    words[2 * LOG_PLACES] = log.len() as u64;
+    for (entry, (id, kind)) in words[..2 * LOG_PLACES].chunks_exact_mut(2).zip(log) {
+        entry[0] = *id;
+        entry[1] = *kind as u64;
+    }
+}
+
+fn log(words: &[u64]) -> MapChange {
+    let kinds = [MapChangeType::Add, MapChangeType::Remove];
+    let count = words[2 * LOG_PLACES] as usize;
+    words.chunks_exact(2).take(count).map(|entry| (entry[0], kinds[entry[1] as usize])).collect()
+}
+
+fn put_tracker(words: &mut [u64], tracker: &Tracker) {
+    put_configuration(words, &tracker.conf);
+    put_ids(&mut words[CONF..], tracker.progress.keys());
+    let records = &mut words[CONF + SET..][..IDS * RECORD];
+    for (record, progress) in records.chunks_exact_mut(RECORD).zip(tracker.progress.values()) {
+        record.copy_from_slice(&[
+            progress.matched,
+            progress.next_idx,
+            progress.state as u64,
+            u64::from(progress.paused),
+            progress.pending_snapshot,
+            progress.pending_request_snapshot,
+            u64::from(progress.recent_active),
+            progress.max_inflight,
+            progress.commit_group_id,
+            progress.committed_index,
+        ]);
+    }
+    words[STATE - 1] = tracker.max_inflight;
+}
+
+fn tracker(words: &[u64]) -> Tracker {
+    let records = words[CONF + SET..].chunks_exact(RECORD).map(progress);
+    Tracker {
+        conf: configuration(words),
+        progress: ids(&words[CONF..]).iter().copied().zip(records).collect(),
+        max_inflight: words[STATE - 1],
+    }
+}
+
+fn progress(record: &[u64]) -> Progress {
+    Progress {
+        matched: record[0],
+        next_idx: record[1],
+        state: [ProgressState::Probe, ProgressState::Replicate, ProgressState::Snapshot][record[2] as usize],
+        paused: record[3] == 1,
+        pending_snapshot: record[4],
+        pending_request_snapshot: record[5],
+        recent_active: record[6] == 1,
+        max_inflight: record[7],
+        commit_group_id: record[8],
+        committed_index: record[9],
+    }
+}

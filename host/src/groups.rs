@@ -1,0 +1,78 @@
+//! The groups of the comparison, in the order in which they run. Each hands inputs to a `Comparison`, which stops it at the first
+//! difference.
+
+mod bytes;
+mod examples;
+mod limits;
+mod random;
+mod restores;
+pub mod scripts;
+mod states;
+pub mod wrapper;
+
+use crate::compare::{Compared, Comparison};
+use crate::random::Random;
+
+/// How much a group tries.
+#[derive(Clone, Copy, PartialEq, Eq)]
+pub enum Size {
+    /// enough for each wrong rule to be caught
+    Quick,
+    Usual,
+    Long,
+}
+
+impl Size {
+    pub fn pick<T>(self, quick: T, usual: T, long: T) -> T {
+        match self {
+            Size::Quick => quick,
+            Size::Usual => usual,
+            Size::Long => long,
+        }
+    }
+}
+
+/// The entry that a group's inputs go through.
+#[derive(Clone, Copy, PartialEq, Eq)]
+pub enum Entry {
+    Call,
+    Replay,
+    /// `dimecandle_call` through dimecandle.rs: always the linked one
+    Wrapper,
+}
+
+pub struct Group {
+    pub name: &'static str,
+    pub entry: Entry,
+    pub run: fn(&mut Comparison, &mut Random, Size) -> Compared,
+}
+
+#[rustfmt::skip]
+pub const GROUPS: [Group; 26] = [
+    Group { name: "calls: the examples of document 01", entry: Entry::Call, run: examples::examples },
+    Group { name: "calls: every state over two ids, every list of up to two changes", entry: Entry::Call, run: states::two_ids },
+    Group { name: "calls: every state over three ids, every single change", entry: Entry::Call, run: states::three_ids },
+    Group { name: "calls: every state over three ids that passes the check, every list of up to three", entry: Entry::Call, run: states::passing },
+    Group { name: "apply_conf: every state over two ids, every log of up to two", entry: Entry::Call, run: states::apply_logs },
+    Group { name: "apply_conf: every tracked subset of three ids, every log of up to four", entry: Entry::Call, run: states::apply_long_logs },
+    Group { name: "apply_conf: every configuration over two ids", entry: Entry::Call, run: states::apply_confs },
+    Group { name: "restore: to fresh, every four lists of up to two ids", entry: Entry::Call, run: restores::to_fresh },
+    Group { name: "restore: to every state over two ids, every four lists of up to one id", entry: Entry::Call, run: restores::to_any },
+    Group { name: "calls: random states in order", entry: Entry::Call, run: random::in_order },
+    Group { name: "calls: random states with faults, idle boxes, id 0", entry: Entry::Call, run: random::faulty },
+    Group { name: "calls: random malformed states, configurations, logs, lists", entry: Entry::Call, run: random::malformed },
+    Group { name: "calls: random sequences from fresh, each answer applied", entry: Entry::Call, run: random::sequences },
+    Group { name: "calls: lists of 250 to 260", entry: Entry::Call, run: limits::long_lists },
+    Group { name: "calls: 60 to 64 tracked, room freed and used", entry: Entry::Call, run: limits::full },
+    Group { name: "calls: ids 0 and 2^64 - 1", entry: Entry::Call, run: limits::ends },
+    Group { name: "bytes: lengths, unknown calls, words that no field can hold", entry: Entry::Call, run: bytes::bytes },
+    Group { name: "wrapper: dimecandle.rs on random states", entry: Entry::Wrapper, run: wrapper::wrapper },
+    Group { name: "scripts: the listing of document 01", entry: Entry::Replay, run: scripts::example },
+    Group { name: "scripts: every one of a few records over two ids", entry: Entry::Replay, run: scripts::every },
+    Group { name: "scripts: random over few ids", entry: Entry::Replay, run: scripts::few_ids },
+    Group { name: "scripts: random over more than 64 ids", entry: Entry::Replay, run: scripts::many_ids },
+    Group { name: "scripts: cut at every length", entry: Entry::Replay, run: scripts::cut },
+    Group { name: "scripts: damaged", entry: Entry::Replay, run: scripts::damaged },
+    Group { name: "scripts: 255 to 257 pending", entry: Entry::Replay, run: scripts::pending },
+    Group { name: "scripts: 65,535 to 65,537 bytes, the longest listings", entry: Entry::Replay, run: scripts::longest },
+];

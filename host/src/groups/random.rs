@@ -1,0 +1,99 @@
+//! Random states, each with one random call.
+
+use super::Size;
+use crate::calls::{APPLY_CONF, CALLS, ENTER_JOINT, LEAVE_JOINT, RESTORE, SIMPLE, TO_CONF_STATE};
+use crate::compare::{Compared, Comparison};
+use crate::generate;
+use crate::random::Random;
+use crate::words::{Block, List, Request, State};
+
+type MakeState = fn(&mut Random, &[u64]) -> State;
+
+/// A random call on a random state.
+fn some_request(random: &mut Random, make: MakeState, request: &mut Request) {
+    let count = generate::size(random);
+    let ids = generate::ids(random, count);
+    *request = Request::zero();
+    request.state = make(random, &ids);
+    let call = &CALLS[random.below(CALLS.len())];
+    generate::arguments(random, call, &ids, request);
+}
+
+pub fn in_order(comparison: &mut Comparison, random: &mut Random, size: Size) -> Compared {
+    let mut request = Request::new(0);
+    for _ in 0..size.pick(3_000, 80_000, 2_000_000) {
+        some_request(random, generate::in_order, &mut request);
+        comparison.call(&request)?;
+    }
+    Ok(())
+}
+
+pub fn faulty(comparison: &mut Comparison, random: &mut Random, size: Size) -> Compared {
+    let mut request = Request::new(0);
+    for _ in 0..size.pick(3_000, 80_000, 2_000_000) {
+        some_request(random, generate::formed, &mut request);
+        comparison.call(&request)?;
+    }
+    Ok(())
+}
+
+/// Damage in one place or in several, so that 1, 2 and 3 meet each other and the refusals after them.
+pub fn malformed(comparison: &mut Comparison, random: &mut Random, size: Size) -> Compared {
+    let mut request = Request::new(0);
+    for _ in 0..size.pick(3_000, 80_000, 2_000_000) {
+        let make = random.pick(&[generate::in_order as MakeState, generate::formed]);
+        some_request(random, make, &mut request);
+        for _ in 0..random.between(1, 3) {
+            generate::damage(random, &mut request);
+        }
+        comparison.call(&request)?;
+    }
+    Ok(())
+}
+
+/// Sequences of calls from fresh. Each accepted answer is applied; on the way every state is checked, written out and restored to
+/// fresh.
+pub fn sequences(comparison: &mut Comparison, random: &mut Random, size: Size) -> Compared {
+    for _ in 0..size.pick(40, 600, 20_000) {
+        let count = random.pick(&[3, 5, 8, 16, 70]);
+        let ids = generate::ids(random, count);
+        let mut request = Request::new(0);
+        request.state.max_inflight = random.pick(&[0, 5, 256]);
+        for _ in 0..random.between(1, 40) {
+            comparison.plain_calls(&mut request)?;
+            written_and_restored(comparison, &mut request)?;
+            step(comparison, random, &ids, &mut request)?;
+        }
+    }
+    Ok(())
+}
+
+/// One call, and the answer applied.
+fn step(comparison: &mut Comparison, random: &mut Random, ids: &[u64], request: &mut Request) -> Compared {
+    let joint = request.state.conf.outgoing.count != 0;
+    request.call = if joint && !random.one_in(10) { LEAVE_JOINT } else { random.pick(&[SIMPLE, SIMPLE, ENTER_JOINT]) };
+    let length = if random.one_in(2) { 1 } else { random.between(0, 6) };
+    request.list = List::of(&generate::changes(random, ids, length));
+    request.auto_leave = random.flag();
+    comparison.call(request)?;
+
+    let answer = comparison.expected(request).0;
+    if answer.number != 0 {
+        return Ok(());
+    }
+    (request.conf, request.log) = (answer.state.conf, answer.log);
+    request.call = APPLY_CONF;
+    request.next_idx = random.number();
+    comparison.call(request)?;
+    request.state = comparison.expected(request).0.state;
+    Ok(())
+}
+
+fn written_and_restored(comparison: &mut Comparison, request: &mut Request) -> Compared {
+    request.call = TO_CONF_STATE;
+    let written = comparison.expected(request).0.conf_state;
+    let mut restore = Request::new(RESTORE);
+    restore.state.max_inflight = request.state.max_inflight;
+    restore.conf_state = written;
+    comparison.call(&restore)
+}

@@ -1,0 +1,89 @@
+//! The two C entries, on the model: docs/EMBEDDING.md, and document 01's last lines on the replay script.
+
+use super::{Model, Replayed, Wrong};
+use crate::calls;
+use crate::script::{listing, LONGEST_SCRIPT, NO_ROOM, TOO_LONG};
+use crate::words::{Block, Conf, Log, Reply, Request, State, LIST_PLACES, REPLY_BYTES, REQUEST_BYTES};
+
+impl Model {
+    /// `dimecandle_call`
+    pub fn call(&self, request: &[u8], reply: &mut [u8]) -> u64 {
+        if request.len() != REQUEST_BYTES {
+            return 1;
+        }
+        if reply.len() < REPLY_BYTES {
+            return 2;
+        }
+        let mut words = Request::new(0);
+        words.bytes_mut().copy_from_slice(request);
+        let Some(call) = calls::numbered(words.call) else { return 3 };
+        if !holdable(&words) {
+            return 4;
+        }
+        let mut answer = Box::new(Reply::zero());
+        answer.giving_back(&words.state);
+        (call.paper)(self, &words, &mut answer);
+        if self.has(Wrong::VacatedPlaceKeepsRecord) {
+            keep_vacated(&words.state, &mut answer.state);
+        }
+        reply[..REPLY_BYTES].copy_from_slice(answer.bytes());
+        0
+    }
+
+    /// `dimecandle_replay`
+    pub fn replay(&self, script: &[u8], out: &mut [u8]) -> u64 {
+        if script.len() > LONGEST_SCRIPT {
+            return TOO_LONG;
+        }
+        let text = self.listing(script);
+        if text.len() > out.len() || (self.has(Wrong::ExactFitRefused) && text.len() == out.len()) {
+            return NO_ROOM;
+        }
+        out[..text.len()].copy_from_slice(&text);
+        text.len() as u64
+    }
+
+    pub fn listing(&self, script: &[u8]) -> Vec<u8> {
+        let mut text = listing(script, &mut Replayed::new(*self));
+        let ending = format!("stopped at byte {}\n", script.len());
+        if self.has(Wrong::PendingAtEndSilent) && text.ends_with(ending.as_bytes()) {
+            text.truncate(text.len() - ending.len());
+        }
+        text
+    }
+}
+
+/// "A flag is 0 or 1. A record's state is 0 Probe, 1 Replicate, 2 Snapshot. A log entry's kind is 0 Add, 1 Remove. A change's kind is a
+/// number up to 255. A count of a LIST is at most 260. Every other word is any number." Every block is read for every call.
+fn holdable(request: &Request) -> bool {
+    let list = &request.list;
+    state_holdable(&request.state)
+        && request.auto_leave <= 1
+        && list.kinds.iter().all(|&kind| kind <= 255)
+        && list.ids_count <= LIST_PLACES as u64
+        && list.kinds_count <= LIST_PLACES as u64
+        && conf_holdable(&request.conf)
+        && log_holdable(&request.log)
+        && request.conf_state.auto_leave <= 1
+}
+
+fn state_holdable(state: &State) -> bool {
+    let records = state.records.iter();
+    conf_holdable(&state.conf) && records.clone().all(|r| r.state <= 2 && r.paused <= 1 && r.recent_active <= 1)
+}
+
+fn conf_holdable(conf: &Conf) -> bool {
+    conf.auto_leave <= 1
+}
+
+fn log_holdable(log: &Log) -> bool {
+    log.entries.iter().all(|entry| entry.kind <= 1)
+}
+
+/// Only a wrong rule does this: the last place that is no longer used keeps what it held.
+fn keep_vacated(before: &State, after: &mut State) {
+    if after.tracked.count < before.tracked.count && before.tracked.count <= 64 {
+        let place = before.tracked.count as usize - 1;
+        after.records[place] = before.records[place];
+    }
+}

@@ -1,0 +1,99 @@
+//! Rules that are wrong on purpose. Document 01, "Errors a porter would make", and others of the kind. Each is one test in
+//! model/rules.rs or model/entries.rs.
+
+/// One wrong rule; `sentence` says which.
+#[derive(Clone, Copy, Debug, PartialEq, Eq)]
+pub enum Wrong {
+    CountsChanges,
+    TwelveAsTheTextSays,
+    CancelsInTheLog,
+    DemotedAtOnce,
+    RestoreListsAsSets,
+    AddKeepsTheOldRecord,
+    FreedRoomNotUsed,
+    LeaveRemovesStaged,
+    CheckBeforeJoint,
+    TrackedOfBaseOnly,
+    LeaveKeepsTheFlag,
+    ZeroIsABox,
+    RefusedRestoreUndone,
+    RemoveFreesOutgoing,
+    RestoreFlagNotIgnored,
+    EmptyListAccepted,
+    VotersSetBySet,
+    SeventeenBeforeSixteen,
+    RefusedApplySetsConf,
+    VacatedPlaceKeepsRecord,
+    PendingAtEndSilent,
+    ExactFitRefused,
+}
+
+use Wrong::*;
+
+impl Wrong {
+    pub const ALL: [Wrong; 22] = [
+        CountsChanges,
+        TwelveAsTheTextSays,
+        CancelsInTheLog,
+        DemotedAtOnce,
+        RestoreListsAsSets,
+        AddKeepsTheOldRecord,
+        FreedRoomNotUsed,
+        LeaveRemovesStaged,
+        CheckBeforeJoint,
+        TrackedOfBaseOnly,
+        LeaveKeepsTheFlag,
+        ZeroIsABox,
+        RefusedRestoreUndone,
+        RemoveFreesOutgoing,
+        RestoreFlagNotIgnored,
+        EmptyListAccepted,
+        VotersSetBySet,
+        SeventeenBeforeSixteen,
+        RefusedApplySetsConf,
+        VacatedPlaceKeepsRecord,
+        PendingAtEndSilent,
+        ExactFitRefused,
+    ];
+
+    pub fn sentence(self) -> &'static str {
+        match self {
+            CountsChanges => "simple counts changes of incoming instead of the net difference",
+            TwelveAsTheTextSays => "12 as the Rust's text has it: a staged id that is an outgoing voter",
+            CancelsInTheLog => "-2 +2 cancel in a log",
+            DemotedAtOnce => "a demoted outgoing voter is a learner at once",
+            RestoreListsAsSets => "restore takes its lists as sets",
+            AddKeepsTheOldRecord => "an Add keeps the old record",
+            FreedRoomNotUsed => "room freed earlier in the list is not used",
+            LeaveRemovesStaged => "leaving removes staged boxes",
+            CheckBeforeJoint => "the check comes before 4, 5 and 6",
+            TrackedOfBaseOnly => "tracked is asked of the base ids without the pending log",
+            LeaveKeepsTheFlag => "leaving keeps auto_leave",
+            ZeroIsABox => "a change with id 0 is not skipped",
+            RefusedRestoreUndone => "a refused restore undoes its earlier steps",
+            RemoveFreesOutgoing => "removing an outgoing voter logs Remove",
+            RestoreFlagNotIgnored => "restore without outgoing voters does not ignore the flag",
+            EmptyListAccepted => "17 is not tested after an empty list",
+            VotersSetBySet => "7 is looked for in incoming and then in outgoing",
+            SeventeenBeforeSixteen => "17 before 16",
+            RefusedApplySetsConf => "an apply_conf refused with 16 has set the configuration",
+            VacatedPlaceKeepsRecord => "a vacated place keeps a record",
+            PendingAtEndSilent => "changes pending at the script's end print nothing",
+            ExactFitRefused => "a listing that just fits is refused with 20",
+        }
+    }
+
+    /// Whether the Rust itself gives another answer. The others are about what the paper adds: an order, limits, unused places, the
+    /// script.
+    pub fn seen_by_the_rust(self) -> bool {
+        let added = [
+            VotersSetBySet,
+            SeventeenBeforeSixteen,
+            RefusedApplySetsConf,
+            VacatedPlaceKeepsRecord,
+            PendingAtEndSilent,
+            ExactFitRefused,
+        ];
+        !added.contains(&self)
+    }
+}

@@ -1,0 +1,96 @@
+//! The peak stack of each entry: it is run on a thread whose stack was filled with a pattern, and what it wrote over is looked for.
+
+use crate::calls::CALLS;
+use crate::generate;
+use crate::groups::scripts::{longest_listing, script};
+use crate::random::Random;
+use crate::subject::{Linked, Subject, CALLS_LINKED, LISTING_LINKED};
+use crate::words::{Block, Request, CAPACITY, REPLY_BYTES};
+use std::process::ExitCode;
+use std::thread;
+
+const STACK: usize = 8 << 20;
+
+/// How much below the measuring function is filled.
+const FILLED: usize = 4 << 20;
+
+/// Not filled: the frames of the measuring function and of the one that fills are here. Less than this cannot be told apart.
+const MARGIN: usize = 2 << 10;
+
+const PATTERN: u64 = 0x5eed_5eed_5eed_5eed;
+
+pub fn run() -> ExitCode {
+    for (linked, name) in [(CALLS_LINKED, "libcalls.a"), (LISTING_LINKED, "liblisting.a")] {
+        if !linked {
+            println!("{name} was not found when this was built: its entry is the model of the paper");
+        }
+    }
+    for call in &CALLS {
+        report(&format!("dimecandle_call, {}", call.name), peak_of_call(call.number));
+    }
+    let bytes = script(&longest_listing());
+    let mut out = vec![0; 16 << 20];
+    let replay = || {
+        Linked.replay(&bytes, &mut out);
+    };
+    report("dimecandle_replay, the longest listing", peak(replay));
+    ExitCode::SUCCESS
+}
+
+fn report(name: &str, peak: usize) {
+    println!("{name:44}{peak:>9} bytes");
+}
+
+/// The most that a call needs over random full states, accepted and refused.
+fn peak_of_call(number: u64) -> usize {
+    let mut random = Random::new(1, "stack");
+    let ids = generate::ids(&mut random, CAPACITY);
+    let mut reply = vec![0; REPLY_BYTES];
+    let mut most = 0;
+    for _ in 0..20 {
+        let mut request = Request::new(number);
+        request.state = generate::in_order(&mut random, &ids);
+        generate::arguments(&mut random, &CALLS[number as usize], &ids, &mut request);
+        let call = || {
+            Linked.call(request.bytes(), &mut reply);
+        };
+        most = most.max(peak(call));
+    }
+    most
+}
+
+/// How far below the caller's frame `work` writes.
+fn peak(work: impl FnOnce() + Send) -> usize {
+    thread::scope(|scope| {
+        let worker = thread::Builder::new().stack_size(STACK).spawn_scoped(scope, || measured(work)).expect("a thread");
+        worker.join().expect("the entry returns")
+    })
+}
+
+#[inline(never)]
+fn measured(work: impl FnOnce()) -> usize {
+    let here = 0u64;
+    let top = &raw const here as usize;
+    fill(top);
+    work();
+    top - lowest_written(top)
+}
+
+/// Writes below the stack pointer, within this thread's own stack. No function is called on the way, whose frame would be written over.
+#[inline(never)]
+fn fill(top: usize) {
+    let mut address = (top & !7) - FILLED;
+    while address < top - MARGIN {
+        unsafe { (address as *mut u64).write_volatile(PATTERN) };
+        address += 8;
+    }
+}
+
+#[inline(never)]
+fn lowest_written(top: usize) -> usize {
+    let mut address = (top & !7) - FILLED;
+    while address < top - MARGIN && unsafe { (address as *const u64).read_volatile() } == PATTERN {
+        address += 8;
+    }
+    address
+}

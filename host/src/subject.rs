@@ -1,0 +1,64 @@
+//! What is compared with the Rust: the two C entries, on bytes.
+
+use crate::model::Model;
+
+pub trait Subject {
+    /// `dimecandle_call` of the static library `calls`: docs/EMBEDDING.md.
+    fn call(&self, request: &[u8], reply: &mut [u8]) -> u64;
+
+    /// `dimecandle_replay` of the static library `listing`: document 01, "The replay script".
+    fn replay(&self, script: &[u8], out: &mut [u8]) -> u64;
+}
+
+/// The entries that this program is linked with.
+pub struct Linked;
+
+/// Which of the static libraries are linked. In the place of a missing one the model has the entry's name.
+pub const CALLS_LINKED: bool = cfg!(libcalls);
+pub const LISTING_LINKED: bool = cfg!(liblisting);
+
+mod c {
+    extern "C" {
+        pub fn dimecandle_call(request: *const u8, request_len: usize, reply: *mut u8, reply_len: usize) -> u64;
+        pub fn dimecandle_replay(script: *const u8, n: usize, out: *mut u8, m: usize) -> u64;
+    }
+}
+
+impl Subject for Linked {
+    fn call(&self, request: &[u8], reply: &mut [u8]) -> u64 {
+        unsafe { c::dimecandle_call(request.as_ptr(), request.len(), reply.as_mut_ptr(), reply.len()) }
+    }
+
+    fn replay(&self, script: &[u8], out: &mut [u8]) -> u64 {
+        unsafe { c::dimecandle_replay(script.as_ptr(), script.len(), out.as_mut_ptr(), out.len()) }
+    }
+}
+
+impl Subject for Model {
+    fn call(&self, request: &[u8], reply: &mut [u8]) -> u64 {
+        Model::call(self, request, reply)
+    }
+
+    fn replay(&self, script: &[u8], out: &mut [u8]) -> u64 {
+        Model::replay(self, script, out)
+    }
+}
+
+/// The model under the entries' names, where a static library is not there.
+#[cfg(any(not(libcalls), not(liblisting)))]
+mod in_place {
+    use crate::model::Model;
+    use std::slice;
+
+    #[cfg(not(libcalls))]
+    #[no_mangle]
+    unsafe extern "C" fn dimecandle_call(request: *const u8, n: usize, reply: *mut u8, m: usize) -> u64 {
+        Model::PAPER.call(slice::from_raw_parts(request, n), slice::from_raw_parts_mut(reply, m))
+    }
+
+    #[cfg(not(liblisting))]
+    #[no_mangle]
+    unsafe extern "C" fn dimecandle_replay(script: *const u8, n: usize, out: *mut u8, m: usize) -> u64 {
+        Model::PAPER.replay(slice::from_raw_parts(script, n), slice::from_raw_parts_mut(out, m))
+    }
+}
