@@ -8,4 +8,5 @@ pub mod Stopped
 pub mod Refused
 pub mod Walked
 pub mod Settled
+pub mod Lent
 pub mod Theorems
