@@ -1,10 +1,13 @@
--- Of the contracts that speak of lent output too, two results that one allows are equal, with what the output then holds. Assumes nothing.
-use Prim.Native.Nat.{ℕ}
+-- The contracts that speak of lent output too: two results that one allows are equal, with what the output then holds; and demand 1, a refused call
+-- leaves the output as it was. Assumes nothing.
+use Prim.Native.Nat.{ℕ, _+_, _^_}
 use mathlib.Core.Path.{_≡_, _∙_, sym}
+use mathlib.Core.Bool.{true, false}
 use mathlib.Core.List.{List}
+use lib.Dec.{eqb, ltb}
 use lib.ListN.{length}
 use Rattle.text.specs.Put.{Put}
-use Rattle.listing.specs.Listing.{replayAnswer, replayLeaves}
+use Rattle.listing.specs.Listing.{listing, replayAnswer, replayLeaves}
 use Rattle.listing.specs.Sessions.{afterIn, shownIn}
 use Rattle.listing.specs.declared.Session.{Session}
 use Rattle.listing.specs.declared.Turned.{Turned}
@@ -32,3 +35,20 @@ replay-settled script out r q m n a b = (equation r q (a .0) (b .0), equation m 
 pub call-settled : (request reply : List ℕ) (r q : ℕ) (m n : List ℕ) → (r ≡ callAnswer request (length reply)) × (m ≡ callLeaves request reply)
     → (q ≡ callAnswer request (length reply)) × (n ≡ callLeaves request reply) → (r ≡ q) × (m ≡ n)
 call-settled request reply r q m n a b = (equation r q (a .0) (b .0), equation m n (a .1) (b .1))
+
+-- ** Demand 1: "with state and lent memory untouched"
+
+-- 19, and 20: `out` is as it was
+pub replay-untouched-19 : (script out : List ℕ) → ltb 65536 (length script) ≡ true → (replayAnswer script (length out) ≡ 2 ^ 32 + 19) × (replayLeaves script out ≡ out)
+unfolding replayAnswer replayLeaves
+replay-untouched-19 script out h = (rw h, rw h)
+
+pub replay-untouched-20 : (script out : List ℕ) → ltb 65536 (length script) ≡ false → ltb (length out) (length (listing script)) ≡ true
+    → (replayAnswer script (length out) ≡ 2 ^ 32 + 20) × (replayLeaves script out ≡ out)
+unfolding replayAnswer replayLeaves
+replay-untouched-20 script out h k = (rw (h, k), rw (h, k))
+
+-- a request that is refused as such leaves the reply as it was
+pub call-untouched : (request reply : List ℕ) → eqb (callAnswer request (length reply)) 0 ≡ false → callLeaves request reply ≡ reply
+unfolding callLeaves
+call-untouched request reply h = rw h
