@@ -94,6 +94,7 @@ module _ (u : Tracker) (w : trackerWellFormed u ≡ true) where
               ∙ ap (λ (xs : List ℕ). recordOf x (peersOf xs (recordPlaces (o .state .peers)))) (sym same)
               ∙ ap (recordOf x) (peers-records (o .state .peers) _)
               ∙ b .back .records x (ap (memb x) same ∙ h);
+          inflight = ap (λ (r : Outcome). r .tracker .«max_inflight») restores ∙ b .back .inflight;
         }
 
 -- ** From the fresh tracker

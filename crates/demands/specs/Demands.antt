@@ -28,7 +28,7 @@ pub record Kept (t : Tracker) (cs : List Call) : Type 0 where
   pub boxes : (x : ℕ) → boxIn (afterCalls t cs) x ≡ replay (events (t .«max_inflight») x (deeds t cs)) (boxIn t x)
 
 -- Demand 2's last sentence, of the tracker t: written out, and restored to `Tracker::new(l)` with `next_idx` n, it "comes back the same", every box
--- with a fresh record.
+-- with a fresh record, `max_inflight` still l.
 pub record ComesBack (t : Tracker) (l n : ℕ) : Type 0 where
   pub written : writtenOf t .number ≡ 0
   pub accepted : restoreOf (trackerOf (fresh l)) (writtenOf t .«conf_state») n .number ≡ 0
@@ -36,6 +36,7 @@ pub record ComesBack (t : Tracker) (l n : ℕ) : Type 0 where
   pub tracked : restoreOf (trackerOf (fresh l)) (writtenOf t .«conf_state») n .tracker .ids ≡ t .ids
   pub records : (x : ℕ) → memb x (held (t .ids)) ≡ true
       → recordOf x (peersOf (held (t .ids)) (restoreOf (trackerOf (fresh l)) (writtenOf t .«conf_state») n .tracker .records)) ≡ found (freshRecord n l)
+  pub inflight : restoreOf (trackerOf (fresh l)) (writtenOf t .«conf_state») n .tracker .«max_inflight» ≡ l
 
 -- Demand 1: "A refused call gives the number .., with state and lent memory untouched."
 abbrev pub AnswerUntouched : Tracker → Answer → Type 0

@@ -18,7 +18,7 @@ use Rattle.rules.specs.Changes.{Work, changes, done}
 use Rattle.rules.specs.Calls.{enterOf, entering, start, withAuto}
 use Rattle.rules.specs.Apply.{applied, enrol, toConfState}
 use Rattle.rules.specs.Restore.{Step, all, ask, enterStep, goOn, oneByOne, restorable, restore, restoreSteps, run, simpleStep, wanted}
-use Rattle.rules.specs.Sequences.{Call, afterCalls, deeds}
+use Rattle.rules.specs.Sequences.{Call, afterCalls, deeds, perform, restoreCall}
 use Rattle.rules.specs.Boxes.{Box, Found, absent, boxOf, changeBox, enterBox, recordOf}
 use Rattle.rules.specs.Demands.{Back, ComesBack}
 use Rattle.rules.proofs.Sets.{ascending-ext, length-part, memb-head, or-true}
@@ -435,12 +435,16 @@ module _ (s : State) (o : Ordered s) (k : Reached s) (m n : ℕ) where
       go true e = single-back (rw e)
       go false e = joint-back (rw e)
 
+  still : restore f lists n .state .maxInflight ≡ m
+  unfolding afterCalls perform
+  still = calls-lead (restoreCall lists n ∷ []) f of .inflight
+
   pub comes-back : ComesBack s m n
   unfolding restore
   comes-back =
       record {
         writes = rw writes;
-        back = rw writes (record { verdict = same .verdict; conf = same .conf; tracked = same .tracked; records = restored-records m n of lists });
+        back = rw writes (record { verdict = same .verdict; conf = same .conf; tracked = same .tracked; records = restored-records m n of lists; inflight = still });
       }
     where
       same : Same s (restore f lists n)

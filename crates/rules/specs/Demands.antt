@@ -24,12 +24,13 @@ pub record Kept (s : State) (cs : List Call) : Type 0 where
   pub boxes : (x : ℕ) → boxOf (afterCalls s cs) x ≡ replay (events (s .maxInflight) x (deeds s cs)) (boxOf s x)
 
 -- Demand 2's last sentence, of a restore of s to `fresh l` that left o: it was accepted, the configuration is that of s, the same ids
--- are tracked, and each under a fresh record.
+-- are tracked, each under a fresh record, and `max_inflight` is still l.
 pub record Back (s : State) (l n : ℕ) (o : Outcome) : Type 0 where
   pub verdict : o .verdict ≡ ok
   pub conf : o .state .conf ≡ s .conf
   pub tracked : ids (o .state .peers) ≡ ids (s .peers)
   pub records : (x : ℕ) → memb x (ids (o .state .peers)) ≡ true → recordOf x (o .state .peers) ≡ found (freshRecord n l)
+  pub inflight : o .state .maxInflight ≡ l
 
 -- "A configuration .., written out and restored to fresh, comes back the same."
 pub record ComesBack (s : State) (l n : ℕ) : Type 0 where

@@ -1,0 +1,73 @@
+/* Document 01's example 8 from C: a demoted voter is staged, and is a learner once the joint configuration is left.
+ * Build and run it: scripts/embed */
+#include "dimecandle.h"
+
+#include <stdio.h>
+#include <stdlib.h>
+#include <string.h>
+
+static dimecandle_request request;
+static dimecandle_reply reply;
+
+/* Makes the call that is filled in; the program ends where the request itself is refused, which is a mistake in this file. */
+static void call(uint64_t which) {
+    request.call = which;
+    uint64_t refused = dimecandle_call((const uint8_t *)&request, sizeof request, (uint8_t *)&reply, sizeof reply);
+    if (refused != 0) {
+        printf("dimecandle_call: %llu\n", (unsigned long long)refused);
+        exit(1);
+    }
+}
+
+static void show_ids(const char *label, const dimecandle_ids *set) {
+    printf(" %s=(", label);
+    for (uint64_t i = 0; i < set->count; i++) {
+        printf(i == 0 ? "%llu" : " %llu", (unsigned long long)set->ids[i]);
+    }
+    printf(")");
+}
+
+/* An accepted answer is applied at once; a refused one says its number and id. */
+static void answered(const char *what) {
+    printf("%s:", what);
+    if (reply.number != 0) {
+        printf(" refused %llu id %llu\n", (unsigned long long)reply.number, (unsigned long long)reply.id);
+        return;
+    }
+    request.conf = reply.state.conf;
+    request.log = reply.log;
+    call(DIMECANDLE_APPLY_CONF);
+    request.state = reply.state;
+    show_ids("incoming", &request.state.conf.incoming);
+    show_ids("outgoing", &request.state.conf.outgoing);
+    show_ids("learners", &request.state.conf.learners);
+    show_ids("learners_next", &request.state.conf.learners_next);
+    show_ids("tracked", &request.state.tracked);
+    printf("\n");
+}
+
+static void change(uint64_t id, uint64_t kind) {
+    request.list.ids[request.list.ids_count++] = id;
+    request.list.kinds[request.list.kinds_count++] = kind;
+}
+
+int main(void) {
+    request.state.max_inflight = 256;
+    request.next_idx = 10;
+    for (uint64_t id = 1; id <= 3; id++) {
+        memset(&request.list, 0, sizeof request.list);
+        change(id, DIMECANDLE_ADD_NODE);
+        call(DIMECANDLE_SIMPLE);
+        answered("simple");
+    }
+    memset(&request.list, 0, sizeof request.list);
+    change(3, DIMECANDLE_ADD_LEARNER_NODE);
+    change(4, DIMECANDLE_ADD_NODE);
+    call(DIMECANDLE_ENTER_JOINT);
+    answered("enter_joint");
+    call(DIMECANDLE_SIMPLE);
+    answered("simple");
+    call(DIMECANDLE_LEAVE_JOINT);
+    answered("leave_joint");
+    return 0;
+}
