@@ -9,7 +9,7 @@ use lib.Dec.{ltb}
 use lib.ListN.{length, drop, getD, drop-of-length-le}
 use lib.Seq.{drop-cons}
 use Rattle.rules.specs.Answers.{Verdict, each, refuse, _▸_}
-use Rattle.changer.specs.Stages.{anyAbove2}
+use Rattle.changer.specs.Before.{anyAbove2}
 
 -- ** The walk
 

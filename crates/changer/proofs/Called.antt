@@ -15,7 +15,8 @@ use Rattle.tracker.specs.declared.Tracker.{Tracker}
 use Rattle.tracker.specs.declared.Verdict.{Verdict}
 use Rattle.invariants.specs.Check.{checkWalk}
 use Rattle.changer.specs.Calls.{enterAnswer, leaveAnswer, simpleAnswer}
-use Rattle.changer.specs.Stages.{againIn, carriedIn, enterIn, enteringIn, given, leaveIn, leavingIn, mayEnter, mayLeave, maySimple, pendingIn, refusedIn, simpleIn, thenOn, withAutoIn}
+use Rattle.changer.specs.Before.{mayEnter, mayLeave, maySimple}
+use Rattle.changer.specs.Stages.{againIn, carriedIn, enterIn, enteringIn, given, leaveIn, leavingIn, pendingIn, refusedIn, simpleIn, thenOn, withAutoIn}
 use Rattle.changer.specs.declared.Answer.{Answer}
 use Rattle.changer.proofs.Same.{enter-same, leave-same, simple-same}
 

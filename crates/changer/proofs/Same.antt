@@ -23,7 +23,8 @@ use Rattle.invariants.proofs.Checks.{walk-checks}
 use Rattle.invariants.proofs.Faults.{Numbered, numbered-refuse, numbered-then}
 use Rattle.invariants.proofs.Parts.{check-numbered}
 use Rattle.changer.specs.Calls.{enterAnswer, ifFormed, leaveAnswer, simpleAnswer}
-use Rattle.changer.specs.Stages.{enterIn, leaveIn, ownCheck, simpleIn}
+use Rattle.changer.specs.Before.{ownCheck}
+use Rattle.changer.specs.Stages.{enterIn, leaveIn, simpleIn}
 use Rattle.changer.proofs.Verdicts.{read-few, readable-numbered, tested-same, tests-first, then-given}
 use Rattle.changer.proofs.Changed.{enter-on, simple-on}
 use Rattle.changer.proofs.Left.{leave-on}

@@ -17,7 +17,7 @@ use Rattle.tracker.specs.Form.{trackerWellFormed}
 use Rattle.tracker.specs.declared.Tracker.{Tracker}
 use Rattle.tracker.specs.declared.Verdict.{Verdict}
 use Rattle.invariants.proofs.Faults.{Numbered, then-stops, then-goes}
-use Rattle.changer.specs.Stages.{anyAbove2, formedThen, readableIn}
+use Rattle.changer.specs.Before.{anyAbove2, formedThen, readableIn}
 use Rattle.changer.proofs.Above.{each-kind}
 use Rattle.changer.proofs.Verdicts.{readable-numbered}
 

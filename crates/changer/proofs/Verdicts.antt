@@ -21,7 +21,8 @@ use Rattle.tracker.specs.declared.Tracker.{Tracker}
 use Rattle.tracker.proofs.Bridge.{tracker-formed}
 use Rattle.invariants.proofs.Faults.{Numbered, numbered-refuse, numbered-then}
 use Rattle.changer.specs.Calls.{answerOf, ifFormed}
-use Rattle.changer.specs.Stages.{given, formedThen}
+use Rattle.changer.specs.Before.{formedThen}
+use Rattle.changer.specs.Stages.{given}
 use Rattle.changer.specs.declared.Answer.{Answer}
 
 -- ** One test after the other

@@ -1,7 +1,7 @@
 -- What the three calls answer, for every state and every list: the rules through the bridge, and 1 where the state is malformed. Assumes
 -- nothing.
 use Prim.Native.Nat.{ℕ}
-use mathlib.Core.Bool.{Bool, true, false, cond}
+use mathlib.Core.Bool.{Bool, cond}
 use mathlib.Core.List.{List, []}
 use Rattle.rules.specs.Answers as rules
 use Rattle.rules.specs.Answers.{accepted, refused}

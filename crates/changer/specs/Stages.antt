@@ -1,20 +1,15 @@
--- The calls stage by stage on structs, as the code goes; that they come to the answers of specs/Calls.antt is proofs/Same.antt. Assumes nothing.
+-- The calls stage by stage on structs, as the code goes, after the tests of specs/Before.antt; that they come to the answers of specs/Calls.antt is proofs/Same.antt. Assumes nothing.
 use Prim.Native.Nat.{ℕ, min}
-use mathlib.Core.Bool.{Bool, true, false, _&&_, _||_, not, cond}
+use mathlib.Core.Bool.{Bool, false, _||_, cond}
 use mathlib.Core.List.{List, [], _∷_}
-use lib.Dec.{eqb, ltb}
-use lib.ListN.{length, drop}
+use lib.Dec.{eqb}
 use Rattle.rules.specs.Ids.{isEmpty}
 use Rattle.rules.specs.State.{Entry, add, remove}
-use Rattle.rules.specs.Answers as rules
-use Rattle.rules.specs.Answers.{ok, fault, refuse, _▸_}
-use Rattle.rules.specs.Check.{joint}
-use Rattle.rules.specs.Calls.{readable, removals}
+use Rattle.rules.specs.Calls.{removals}
 use Rattle.idset.specs.Places.{firstIs, twoApart}
 use Rattle.idset.specs.Set.{held, setOf, insertOf, removeOf, unionOf}
 use Rattle.idset.specs.declared.IdSet.{IdSet}
 use Rattle.tracker.specs.Bridge.{confOf, logOf, changeLogOf}
-use Rattle.tracker.specs.Form.{trackerWellFormed}
 use Rattle.tracker.specs.Apply.{verdictOf}
 use Rattle.tracker.specs.declared.Configuration.{Configuration}
 use Rattle.tracker.specs.declared.ChangeLog.{ChangeLog}
@@ -24,6 +19,7 @@ use Rattle.invariants.specs.Walk.{past}
 use Rattle.invariants.specs.Check.{checkWalk}
 use Rattle.changes.specs.Change.{workIn, changesIn}
 use Rattle.changes.specs.declared.Work.{Work}
+use Rattle.changer.specs.Before.{mayEnter, mayLeave, maySimple}
 use Rattle.changer.specs.declared.Answer.{Answer}
 
 abbrev pub acceptedIn : Configuration → ChangeLog → Answer
@@ -32,36 +28,9 @@ acceptedIn c log = record { number = 0; id = 0; conf = c; log = log }
 abbrev pub refusedIn : Configuration → ℕ → ℕ → Answer
 refusedIn c n x = record { number = n; id = x; conf = c; log = changeLogOf [] }
 
--- ** Before the changes
-
--- 1, then what else is tested
-abbrev pub formedThen : Tracker → rules.Verdict → Verdict
-formedThen t v = cond (trackerWellFormed t) (verdictOf v) (verdictOf (fault 1 0))
-
--- the check of a state's own configuration and ids
-abbrev pub ownCheck : Tracker → rules.Verdict
-ownCheck t = checkWalk (held (t .ids)) (confOf (t .conf))
-
-abbrev pub readableIn : Tracker → List ℕ → List ℕ → Verdict
-readableIn t ids kinds = formedThen t (readable ids kinds)
-
--- a kind above 2
-unfoldable pub anyAbove2 : List ℕ → Bool
-anyAbove2 [] = false
-anyAbove2 (k ∷ ks) = ltb 2 k || anyAbove2 ks
-
--- 1, 2, 3; 4; the check; 15
-abbrev pub mayEnter : Tracker → List ℕ → List ℕ → Verdict
-mayEnter t ids kinds =
-    formedThen t (readable ids kinds ▸ refuse (joint (confOf (t .conf))) 4 0 ▸ ownCheck t ▸ refuse (isEmpty (held (t .conf .incoming))) 15 0)
-
--- 1; 5; the check
-abbrev pub mayLeave : Tracker → Verdict
-mayLeave t = formedThen t (refuse (not (joint (confOf (t .conf)))) 5 0 ▸ ownCheck t)
-
--- 1, 2, 3; 6; the check
-abbrev pub maySimple : Tracker → List ℕ → List ℕ → Verdict
-maySimple t ids kinds = formedThen t (readable ids kinds ▸ refuse (joint (confOf (t .conf))) 6 0 ▸ ownCheck t)
+-- where the tests refuse, the configuration that was given; else the rest
+abbrev pub given : Verdict → Configuration → Answer → Answer
+given v c a = cond (eqb (v .number) 0) a (refusedIn c (v .number) (v .id))
 
 -- ** The changes
 
@@ -90,9 +59,9 @@ withAutoIn auto a = record { number = a .number; id = a .id; conf = withAuto aut
 
 -- 16, 17, or what the list came to
 abbrev pub afterList : Configuration → Work → Answer
-afterList given w =
-    cond (w .full) (refusedIn given 16 (w .id))
-    (cond (isEmpty (held (w .conf .incoming))) (refusedIn given 17 0)
+afterList c w =
+    cond (w .full) (refusedIn c 16 (w .id))
+    (cond (isEmpty (held (w .conf .incoming))) (refusedIn c 17 0)
     (acceptedIn (w .conf) (w .log)))
 
 abbrev pub carriedIn : IdSet → Configuration → List ℕ → List ℕ → Answer
@@ -109,12 +78,9 @@ unfoldable pub pendingIn : List Entry → IdSet → IdSet
 pendingIn [] s = s
 pendingIn (e ∷ es) s = pendingIn es (pendingOne e s)
 
-abbrev pub unlessRefused : Verdict → Configuration → Answer → Answer
-unlessRefused v given a = cond (eqb (v .number) 0) a (refusedIn given (v .number) (v .id))
-
 -- the check again
 abbrev pub againIn : IdSet → Configuration → Answer → Answer
-againIn tracked given a = unlessRefused (verdictOf (checkWalk (held (pendingIn (logOf (a .log)) tracked)) (confOf (a .conf)))) given a
+againIn tracked c a = given (verdictOf (checkWalk (held (pendingIn (logOf (a .log)) tracked)) (confOf (a .conf)))) c a
 
 -- ** Leaving
 
@@ -143,10 +109,6 @@ abbrev pub leavingIn : Configuration → Answer
 leavingIn c = acceptedIn (leftIn c) (changeLogOf (removals (goneWalk (held (c .outgoing)) (held (c .incoming)) (held (learnersAfter c)))))
 
 -- ** The calls
-
--- after the first tests, the rest
-abbrev pub given : Verdict → Configuration → Answer → Answer
-given v c a = cond (eqb (v .number) 0) a (refusedIn c (v .number) (v .id))
 
 -- an accepted answer goes on; a refused one is given with the configuration that was asked of
 abbrev pub thenOn : Configuration → Answer → Answer → Answer

@@ -21,7 +21,8 @@ ghost use Rattle.idset.specs.Set.{held};
 ghost use Rattle.tracker.specs.Bridge.{entryOf, logOf, changeLogOf};
 ghost use Rattle.changes.specs.Change.{pushIn};
 ghost use Rattle.changer.specs.Calls.{enterAnswer, leaveAnswer, simpleAnswer};
-ghost use Rattle.changer.specs.Stages.{refusedIn, acceptedIn, readableIn, anyAbove2, mayEnter, mayLeave, maySimple, enteringIn, withAutoIn, carriedIn, againIn, pendingOne, pendingIn, leavingIn, goneWalk};
+ghost use Rattle.changer.specs.Before.{readableIn, anyAbove2, mayEnter, mayLeave, maySimple};
+ghost use Rattle.changer.specs.Stages.{refusedIn, acceptedIn, enteringIn, withAutoIn, carriedIn, againIn, pendingOne, pendingIn, leavingIn, goneWalk};
 
 // What a call answers: number and id, 0 where it is accepted; then the new configuration and the log, else the configuration given and no log.
 pub struct Answer {

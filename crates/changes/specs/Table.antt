@@ -1,10 +1,9 @@
 -- The code's table and the rules' table: the same rows under the code's names. Assumes nothing.
 use Prim.Native.Nat.{ℕ}
-use mathlib.Core.Bool.{Bool, true, false, not, cond}
+use mathlib.Core.Bool.{Bool, not, cond}
 use lib.Dec.{eqb}
 use Rattle.rules.specs.State as state
 use Rattle.rules.specs.Table as rules
-use Rattle.rules.specs.Calls.{kindOf}
 use Rattle.changes.specs.declared.table.Standing.{Standing}
 use Rattle.changes.specs.declared.table.Standing.the-variants.{None, Idle, I, L, O, IO, OS}
 use Rattle.changes.specs.declared.table.Kind.{Kind}

@@ -4,7 +4,7 @@ use tracker::MapChange;
 use tracker::MapChangeType;
 ghost use mathlib.Core.Path.{_≡_};
 ghost use lib.ListN.{take};
-ghost use Rattle.rules.specs.Changes.{lastSays, pendingTracked};
+ghost use Rattle.rules.specs.Changes.{lastSays};
 ghost use Rattle.tracker.specs.Bridge.{entryOf, entriesOf};
 ghost use Rattle.changes.specs.Pending.{entrySays, trackedIn};
 

@@ -1,54 +1,91 @@
--- The contracts that speak of lent output too: two results that one allows are equal, with what the output then holds; and demand 1, a refused call
--- leaves the output as it was. Assumes nothing.
-use Prim.Native.Nat.{ℕ, _+_, _^_}
-use mathlib.Core.Path.{_≡_, _∙_, sym}
-use mathlib.Core.Bool.{true, false}
+-- The contracts of text, listing and calls: two results that one allows are equal, and so is what a lent output then holds. `Learnt` is as in
+-- proofs/Settled.antt. Assumes nothing.
+use Prim.Native.Nat.{ℕ}
+use mathlib.Core.Path.{_≡_}
 use mathlib.Core.List.{List}
-use lib.Dec.{eqb, ltb}
-use lib.ListN.{length}
+use denote.Ref.{now}
 use Rattle.text.specs.Put.{Put}
-use Rattle.listing.specs.Listing.{listing, replayAnswer, replayLeaves}
-use Rattle.listing.specs.Sessions.{afterIn, shownIn}
+use Rattle.text.proofs.«put_byte».Reads as text-put-byte
+use Rattle.text.proofs.«put_bytes».Reads as text-put-bytes
+use Rattle.text.proofs.«put_decimal».Reads as text-put-decimal
+use Rattle.text.proofs.«put_group».Reads as text-put-group
+use Rattle.listing.proofs.«dimecandle_replay».Reads as listing-replay
+use Rattle.listing.proofs.begin.Reads as listing-begin
+use Rattle.listing.proofs.stops.Reads as listing-stops
+use Rattle.listing.proofs.turn.Reads as listing-turn
+use Rattle.listing.proofs.«put_stopped».Reads as listing-put-stopped
+use Rattle.listing.proofs.«put_ending».Reads as listing-put-ending
+use Rattle.listing.proofs.«number_at».Reads as listing-number-at
+use Rattle.listing.proofs.line.«put_answer».Reads as listing-put-answer
 use Rattle.listing.specs.declared.Session.{Session}
 use Rattle.listing.specs.declared.Turned.{Turned}
-use Rattle.calls.specs.Call.{callAnswer, callLeaves}
-use Rattle.demands.proofs.Settled.{equation}
+use Rattle.calls.proofs.«dimecandle_call».Reads as calls-call
+use Rattle.calls.proofs.read.word.Reads as calls-word
+use Rattle.calls.proofs.read.holds.Reads as calls-holds
+use Rattle.calls.proofs.read.state.Reads as calls-state
+use Rattle.calls.proofs.read.«change_list».Reads as calls-change-list
+use Rattle.calls.proofs.read.conf.Reads as calls-conf
+use Rattle.calls.proofs.read.log.Reads as calls-log
+use Rattle.calls.proofs.read.«conf_state».Reads as calls-conf-state
+use Rattle.calls.proofs.write.«put_reply».Reads as calls-put-reply
+use Rattle.demands.proofs.Settled.{Settles, equation}
 
--- text's put_byte, put_bytes, put_decimal and put_group; listing's put_stopped, put_ending and line::put_answer; calls' write::put_reply: the place
--- after the text, and the slice
-pub put-settled : (old text : List ℕ) (at : ℕ) (m n : List ℕ) (p q : ℕ) → Put old at text m p → Put old at text n q → (m ≡ n) × (p ≡ q)
-put-settled old text at m n p q a b = (equation m n (a .bytes) (b .bytes), equation p q (a .end) (b .end))
+-- P is a contract, `held` what a lent output holds at exit: of the same arguments it allows one result and one output
+abbrev pub SettlesWith : {K : Type 0} {A Z E : K → Type 0} → ((κs : K) → A κs → Z κs → E κs → Type 0) → ((κs : K) → E κs → List ℕ) → Type 0
+SettlesWith {K} {A} {Z} {E} P held = (κs : K) (a : A κs) (z y : Z κs) (e d : E κs) → P κs a z e → P κs a y d → (z ≡ y) × (held κs e ≡ held κs d)
 
--- listing's turn: besides, what is gone on with
-pub turn-settled : (old : List ℕ) (at : ℕ) (z : Session) (kind number : ℕ) (m n : List ℕ) (t u : Turned)
-    → Put old at (shownIn z kind) m (t .at) × (t .session ≡ afterIn z kind number) → Put old at (shownIn z kind) n (u .at) × (u .session ≡ afterIn z kind number) → (m ≡ n) × (t ≡ u)
-turn-settled old at z kind number m n t u a b =
-    let p : (m ≡ n) × (t .at ≡ u .at) = put-settled old (shownIn z kind) at m n (t .at) (u .at) (a .0) (b .0) in
-    (p .0, λ i. record { at = p .1 i; session = equation (t .session) (u .session) (a .1) (b .1) i })
+-- the place after a text, and the slice
+pub put-settled : {old text : List ℕ} {at : ℕ} {m n : List ℕ} {p q : ℕ} → Put old at text m p → Put old at text n q → (p ≡ q) × (m ≡ n)
+put-settled {m = m} {n = n} {p = p} {q = q} a b = (equation p q (a .end) (b .end), equation m n (a .bytes) (b .bytes))
 
--- listing's dimecandle_replay
-pub replay-settled : (script out : List ℕ) (r q : ℕ) (m n : List ℕ) → (r ≡ replayAnswer script (length out)) × (m ≡ replayLeaves script out)
-    → (q ≡ replayAnswer script (length out)) × (n ≡ replayLeaves script out) → (r ≡ q) × (m ≡ n)
-replay-settled script out r q m n a b = (equation r q (a .0) (b .0), equation m n (a .1) (b .1))
+-- ** text
 
--- calls' dimecandle_call
-pub call-settled : (request reply : List ℕ) (r q : ℕ) (m n : List ℕ) → (r ≡ callAnswer request (length reply)) × (m ≡ callLeaves request reply)
-    → (q ≡ callAnswer request (length reply)) × (n ≡ callLeaves request reply) → (r ≡ q) × (m ≡ n)
-call-settled request reply r q m n a b = (equation r q (a .0) (b .0), equation m n (a .1) (b .1))
+pub record Texts : Type 0 where
+  pub put-byte : SettlesWith text-put-byte.Learnt (λ κs e. now (e .0))
+  pub put-bytes : SettlesWith text-put-bytes.Learnt (λ κs e. now (e .0))
+  pub put-decimal : SettlesWith text-put-decimal.Learnt (λ κs e. now (e .0))
+  pub put-group : SettlesWith text-put-group.Learnt (λ κs e. now (e .0))
 
--- ** Demand 1: "with state and lent memory untouched"
+pub text : Texts
+text = search put-settled
 
--- 19, and 20: `out` is as it was
-pub replay-untouched-19 : (script out : List ℕ) → ltb 65536 (length script) ≡ true → (replayAnswer script (length out) ≡ 2 ^ 32 + 19) × (replayLeaves script out ≡ out)
-unfolding replayAnswer replayLeaves
-replay-untouched-19 script out h = (rw h, rw h)
+-- ** listing
 
-pub replay-untouched-20 : (script out : List ℕ) → ltb 65536 (length script) ≡ false → ltb (length out) (length (listing script)) ≡ true
-    → (replayAnswer script (length out) ≡ 2 ^ 32 + 20) × (replayLeaves script out ≡ out)
-unfolding replayAnswer replayLeaves
-replay-untouched-20 script out h k = (rw (h, k), rw (h, k))
+pub record Listings : Type 0 where
+  pub dimecandle-replay : SettlesWith listing-replay.Learnt (λ κs e. now (e .1 .0))
+  pub begin : Settles listing-begin.Learnt
+  pub stops : Settles listing-stops.Learnt
+  pub turn : SettlesWith listing-turn.Learnt (λ κs e. now (e .0))
+  pub put-stopped : SettlesWith listing-put-stopped.Learnt (λ κs e. now (e .0))
+  pub put-ending : SettlesWith listing-put-ending.Learnt (λ κs e. now (e .0))
+  pub number-at : Settles listing-number-at.Learnt
+  pub put-answer : SettlesWith listing-put-answer.Learnt (λ κs e. now (e .0))
 
--- a request that is refused as such leaves the reply as it was
-pub call-untouched : (request reply : List ℕ) → eqb (callAnswer request (length reply)) 0 ≡ false → callLeaves request reply ≡ reply
-unfolding callLeaves
-call-untouched request reply h = rw h
+-- `turn`: besides, what is gone on with
+turned : {old text : List ℕ} {at : ℕ} {m n : List ℕ} {v : Session} {t u : Turned} → Put old at text m (t .at) × (t .session ≡ v) → Put old at text n (u .at) × (u .session ≡ v) → (t ≡ u) × (m ≡ n)
+turned {t = t} {u = u} a b =
+    let p = put-settled (a .0) (b .0) in
+    ((λ i. record { at = p .0 i; session = equation (t .session) (u .session) (a .1) (b .1) i }), p .1)
+
+-- an entry: what it returns, and what it leaves
+both : {A B : Type 0} {v : A} {w : B} {r q : A} {m n : B} → (r ≡ v) × (m ≡ w) → (q ≡ v) × (n ≡ w) → (r ≡ q) × (m ≡ n)
+both {r = r} {q = q} {m = m} {n = n} a b = (equation r q (a .0) (b .0), equation m n (a .1) (b .1))
+
+pub listing : Listings
+listing = search (equation, put-settled, turned, both)
+
+-- ** calls
+
+pub record Entries : Type 0 where
+  pub dimecandle-call : SettlesWith calls-call.Learnt (λ κs e. now (e .1 .0))
+  pub word : Settles calls-word.Learnt
+  pub holds : Settles calls-holds.Learnt
+  pub state : Settles calls-state.Learnt
+  pub change-list : Settles calls-change-list.Learnt
+  pub conf : Settles calls-conf.Learnt
+  pub log : Settles calls-log.Learnt
+  pub conf-state : Settles calls-conf-state.Learnt
+  pub put-reply : SettlesWith calls-put-reply.Learnt (λ κs e. now (e .0))
+
+pub entries : Entries
+entries = search (equation, put-settled, both)

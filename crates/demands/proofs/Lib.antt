@@ -9,4 +9,6 @@ pub mod Refused
 pub mod Walked
 pub mod Settled
 pub mod Lent
+pub mod AllSettled
+pub mod Bytes
 pub mod Theorems

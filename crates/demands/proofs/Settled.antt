@@ -1,5 +1,5 @@
--- Of each public contract, two results that it allows are equal: a line for each public function. `Learnt` is Rattle's own reading of the
--- `ensures` in src/, what a caller learns of arguments and result. Assumes nothing.
+-- Of each public contract of the crates up to restore, two results that it allows are equal: a line for each public function. `Learnt` is
+-- Rattle's own reading of the `ensures` in src/, what a caller learns of arguments and result. Assumes nothing.
 use mathlib.Core.Path.{_≡_, _∙_, sym}
 use denote.Ref.{now}
 use Rattle.progress.proofs.Progress.fresh.Reads as progress-fresh
@@ -165,16 +165,3 @@ pub record Calls : Type 0 where
 
 pub calls : Calls
 calls = search equation
-
--- ** All of them
-
-pub record Settled : Type 0 where
-  pub progress : Progresses
-  pub idset : Sets
-  pub tracker : Trackers
-  pub invariants : Invariants
-  pub changes : Changes
-  pub calls : Calls
-
-pub all-settled : Settled
-all-settled = record { progress = progress; idset = idset; tracker = tracker; invariants = invariants; changes = changes; calls = calls }

@@ -16,11 +16,12 @@ use Rattle.demands.specs.Sequences.{Call, afterCalls}
 use Rattle.demands.specs.Demands.{ComesBack, Kept}
 use Rattle.demands.specs.Statements.{OthersAlterNeither, RefusedUntouched}
 use Rattle.demands.proofs.Boxes.{kept}
+use Rattle.demands.proofs.Bytes.{call, no-call, replay-no-room, replay-too-long}
 use Rattle.demands.proofs.Others.{others}
 use Rattle.demands.proofs.Refused.{applied-untouched, apply-untouched, asked-untouched, restore-stays, restore-untouched, written-nothing}
 use Rattle.demands.proofs.Restorable.{restored-runs}
 use Rattle.demands.proofs.RoundTrip.{reached-back}
-use Rattle.demands.proofs.Settled.{Settled, all-settled}
+use Rattle.demands.proofs.AllSettled.{Settled, all-settled}
 
 -- Demand 1: "A refused call gives the number .., with state and lent memory untouched." A restore that a step ends is the exception: the steps
 -- accepted before it stay.
@@ -38,6 +39,10 @@ refused-untouched t =
       restore = restore-untouched t;
       restore-runs = λ w cs n h. restored-runs t w cs h n;
       restore-stays = restore-stays t;
+      too-long = replay-too-long;
+      no-room = replay-no-room;
+      no-call = no-call;
+      call = call;
     }
 
 -- Demand 2's last sentence: "A configuration .., written out and restored to fresh, comes back the same." It was reached from fresh by any

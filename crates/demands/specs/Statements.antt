@@ -1,10 +1,10 @@
 -- The demands' sentences on refused calls and on changes that name other boxes, as statements about trackers; proofs/Theorems.antt proves
 -- them. Assumes nothing.
-use Prim.Native.Nat.{ℕ, _≤_, _<_}
+use Prim.Native.Nat.{ℕ, _+_, _^_, _≤_, _<_}
 use mathlib.Core.Path.{_≡_}
 use mathlib.Core.Bool.{Bool, true, false}
-use mathlib.Core.List.{List, _∷_, _++_}
-use lib.Dec.{eqb}
+use mathlib.Core.List.{List, [], _∷_, _++_}
+use lib.Dec.{eqb, ltb}
 use lib.ListN.{length}
 use Rattle.progress.specs.Record.{freshRecord}
 use Rattle.rules.specs.State.{Change}
@@ -13,7 +13,7 @@ use Rattle.rules.specs.Calls.{listOf}
 use Rattle.rules.specs.Restore.{Step, attempt, restoreSteps, run}
 use Rattle.rules.specs.Boxes.{entered, naming, replay}
 use Rattle.tracker.specs.Apply.{applyOf, outcomeOf, verdictIn}
-use Rattle.tracker.specs.Bridge.{confStateOf, listsOf, stateOf}
+use Rattle.tracker.specs.Bridge.{changeLogOf, confStateOf, listsOf, stateOf}
 use Rattle.tracker.specs.ConfStates.{writtenOf}
 use Rattle.tracker.specs.Form.{trackerWellFormed}
 use Rattle.tracker.specs.declared.ChangeLog.{ChangeLog}
@@ -24,6 +24,9 @@ use Rattle.tracker.specs.declared.Verdict.{Verdict}
 use Rattle.changer.specs.Calls.{enterAnswer, leaveAnswer, simpleAnswer}
 use Rattle.changer.specs.declared.Answer.{Answer}
 use Rattle.restore.specs.Restore.{appliedTo, restoreOf, stepsOf, tooLong}
+use Rattle.listing.specs.Listing.{listing, replayAnswer, replayLeaves}
+use Rattle.calls.specs.Layout.{stateAt, word}
+use Rattle.calls.specs.Call.{callAnswer, callLeaves, replyTo}
 use Rattle.demands.specs.Sequences.{boxIn}
 use Rattle.demands.specs.Demands.{AnswerUntouched, StateUntouched}
 
@@ -78,3 +81,11 @@ pub record RefusedUntouched (t : Tracker) : Type 0 where
   -- its exception: past 1 and 2 it is the run of its steps; where one of them is refused, those before it stay
   pub restore-runs : trackerWellFormed t ≡ true → (cs : ConfState) (n : ℕ) → tooLong cs ≡ false → restoreOf t cs n ≡ outcomeOf (run n (stateOf t) (restoreSteps (listsOf cs)))
   pub restore-stays : (cs : ConfState) (n : ℕ) → 2 < restoreOf t cs n .number → Stays t cs n
+  -- dimecandle_replay, refused with 19 or 20: the lent output is as it was
+  pub too-long : (script out : List ℕ) → ltb 65536 (length script) ≡ true → (replayAnswer script (length out) ≡ 2 ^ 32 + 19) × (replayLeaves script out ≡ out)
+  pub no-room : (script out : List ℕ) → ltb 65536 (length script) ≡ false → ltb (length out) (length (listing script)) ≡ true
+      → (replayAnswer script (length out) ≡ 2 ^ 32 + 20) × (replayLeaves script out ≡ out)
+  -- dimecandle_call: a request that is refused as such leaves the lent reply as it was; a refused call, restore's own excepted, replies the state of the request
+  -- and an empty log
+  pub no-call : (request reply : List ℕ) → eqb (callAnswer request (length reply)) 0 ≡ false → callLeaves request reply ≡ reply
+  pub call : (request : List ℕ) → ltb (word request 0) 7 ≡ true → eqb (replyTo request .number) 0 ≡ false → (replyTo request .tracker ≡ stateAt request 1) × (replyTo request .log ≡ changeLogOf [])

@@ -1,5 +1,5 @@
 -- The walk of two ascending lists side by side decides whether their difference is two or more. Assumes nothing.
-use Prim.Native.Nat.{ℕ, suc, _+_, _≤_, _<_}
+use Prim.Native.Nat.{ℕ, suc, _+_, _<_}
 use mathlib.Core.Path.{_≡_, refl, ap, _∙_, sym}
 use mathlib.Core.Bool.{Bool, true, false, _||_, cond}
 use mathlib.Core.List.{List, [], _∷_}
@@ -7,7 +7,7 @@ use native.Mathlib.Omega.{arith}
 use borrow.Author.Tests.{ne-eqb, eqb-false, ltb-true, ltb-false, le-leb}
 use lib.Dec.{eqb, ltb, leb}
 use lib.ListN.{length}
-use Rattle.rules.specs.Ids.{memb, above, ascending, minus}
+use Rattle.rules.specs.Ids.{memb, ascending, minus}
 use Rattle.rules.specs.Calls.{difference}
 use Rattle.rules.proofs.Sets.{or-left, or-right, above-none, rising-tail, memb-head, memb-before}
 use Rattle.idset.specs.Places.{twoApart}

@@ -1,11 +1,11 @@
 -- The check as walks along ascending sets: on well-formed sets it is the rules' check (proofs/Checks.antt); and in order. Assumes nothing.
 use Prim.Native.Nat.{ℕ}
-use mathlib.Core.Bool.{Bool, true, false, _&&_, not, cond}
+use mathlib.Core.Bool.{Bool, _&&_, not, cond}
 use mathlib.Core.List.{List}
 use Rattle.rules.specs.Ids.{isEmpty}
 use Rattle.rules.specs.State.{Conf}
 use Rattle.rules.specs.Answers as rules
-use Rattle.rules.specs.Answers.{ok, fault, refuse, _▸_}
+use Rattle.rules.specs.Answers.{fault, refuse, _▸_}
 use Rattle.rules.specs.Check.{joint, checkState, inOrder}
 use Rattle.tracker.specs.Bridge.{stateOf}
 use Rattle.tracker.specs.Form.{trackerWellFormed}

@@ -1,6 +1,6 @@
 -- The text of a line: document 01, "The replay script". Assumes nothing.
 use Prim.Native.Nat.{ℕ}
-use mathlib.Core.Bool.{Bool, true, false, cond}
+use mathlib.Core.Bool.{cond}
 use mathlib.Core.List.{List, [], _∷_, _++_}
 use Rattle.rules.specs.Ids.{isEmpty}
 use Rattle.rules.specs.State.{Conf, Entry, add, remove}

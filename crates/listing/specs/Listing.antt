@@ -1,7 +1,7 @@
 -- The listing of a script, and what `replay` answers and leaves: document 01, "The replay script". Assumes nothing.
 use Prim.Native.Nat.{ℕ, zero, suc, _+_, _/_, _^_}
-use mathlib.Core.Bool.{Bool, cond}
-use mathlib.Core.List.{List, [], _∷_, _++_}
+use mathlib.Core.Bool.{cond}
+use mathlib.Core.List.{List, [], _++_}
 use lib.Dec.{ltb}
 use lib.ListN.{length, drop}
 use Rattle.rules.specs.Ids.{isEmpty}

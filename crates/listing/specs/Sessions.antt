@@ -1,10 +1,10 @@
 -- A replay in a struct, and what each record makes of any such struct. On those that a replay comes to it is what specs/Script.antt says
 -- (proofs/Sessions.antt). Assumes nothing.
 use Prim.Native.Nat.{ℕ, _+_, min}
-use mathlib.Core.Bool.{Bool, true, false, cond}
-use mathlib.Core.List.{List, [], _∷_}
+use mathlib.Core.Bool.{cond}
+use mathlib.Core.List.{List, []}
 use lib.Dec.{eqb, leb}
-use lib.ListN.{length, take, set, replicate}
+use lib.ListN.{take, set, replicate}
 use Rattle.rules.specs.State.{fresh}
 use Rattle.tracker.specs.Bridge.{confOf, logOf, stateOf, trackerOf}
 use Rattle.tracker.specs.declared.MapChangeType.{MapChangeType}

@@ -1,7 +1,7 @@
 -- What `restore` answers and leaves, for every state and every `ConfState`: the rules through the bridge. Assumes nothing.
 use Prim.Native.Nat.{ℕ}
-use mathlib.Core.Bool.{Bool, true, false, _||_, cond}
-use mathlib.Core.List.{List, [], _∷_}
+use mathlib.Core.Bool.{Bool, _||_, cond}
+use mathlib.Core.List.{List}
 use lib.Dec.{eqb, ltb}
 use Rattle.rules.specs.Restore as rules
 use Rattle.tracker.specs.Bridge.{stateOf, listsOf}

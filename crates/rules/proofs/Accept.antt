@@ -1,11 +1,11 @@
 -- When a step is accepted. Assumes nothing.
-use Prim.Native.Nat.{ℕ, zero, suc, _+_, _≤_, _<_}
+use Prim.Native.Nat.{ℕ, _+_, _≤_, _<_}
 use mathlib.Core.Path.{_≡_, refl, ap, _∙_, sym, fun-ext}
-use mathlib.Core.Bool.{Bool, true, false, _&&_, _||_, not, cond, true≢false, false≢true}
+use mathlib.Core.Bool.{Bool, true, false, _&&_, _||_, not, cond, false≢true}
 use mathlib.Core.List.{List, [], _∷_, _++_}
 use native.Mathlib.Omega.{arith}
-use borrow.Author.Tests.{eq-eqb, ne-eqb, eqb-true, eqb-false, lt-leb, not-true, not-false}
-use lib.Dec.{eqb, ltb, leb}
+use borrow.Author.Tests.{ne-eqb, eqb-true, lt-leb, not-true}
+use lib.Dec.{eqb, leb}
 use lib.ListN.{length}
 use Rattle.progress.specs.declared.Progress.{Progress}
 use Rattle.rules.specs.Ids.{ascending, isEmpty, memb, removeId}

@@ -1,16 +1,15 @@
 -- An accepted answer of any well-formed state, in order or not, fits and is applied: apply_conf never refuses it. Assumes nothing.
 use Prim.Native.Nat.{ℕ, _≤_}
-use mathlib.Core.Path.{_≡_, refl, ap, _∙_, sym, fun-ext}
-use mathlib.Core.Bool.{Bool, true, false, _&&_, _||_, not}
-use mathlib.Core.List.{List, []}
+use mathlib.Core.Path.{_≡_, ap, _∙_, sym, fun-ext}
+use mathlib.Core.Bool.{true}
+use mathlib.Core.List.{List}
 use borrow.Author.Tests.{le-leb}
-use lib.Dec.{leb}
 use lib.ListN.{length}
 use Rattle.progress.specs.declared.Progress.{Progress}
 use Rattle.progress.specs.Record.{freshRecord}
 use Rattle.rules.specs.Ids.{memb}
 use Rattle.rules.specs.State.{Conf, State, ids, confFormed, formed, Entry, logFormed}
-use Rattle.rules.specs.Answers.{ok, Answer, accepted, Outcome}
+use Rattle.rules.specs.Answers.{ok, accepted}
 use Rattle.rules.specs.Check.{check, isTracked}
 use Rattle.rules.specs.Changes.{pendingTracked}
 use Rattle.rules.specs.Apply.{enrol, applied, applyConf}

@@ -1,14 +1,14 @@
 -- What it means that a call is accepted: the tests that it passed, and the work that it did. Assumes nothing.
 use Prim.Native.Nat.{ℕ}
-use mathlib.Core.Path.{_≡_, refl, ap, sym, _∙_}
+use mathlib.Core.Path.{_≡_, refl}
 use mathlib.Core.Bool.{Bool, true, false, not}
-use mathlib.Core.List.{List, []}
+use mathlib.Core.List.{List}
 use native.Mathlib.Omega.{arith}
 use borrow.Author.Tests.{not-false}
 use lib.Dec.{leb}
 use Rattle.rules.specs.Ids.{isEmpty}
 use Rattle.rules.specs.State.{Conf, State, ids, Change, Entry}
-use Rattle.rules.specs.Answers.{Verdict, ok, fault, Answer, accepted, refused, refuse, _▸_, _⇒_}
+use Rattle.rules.specs.Answers.{Verdict, ok, fault, Answer, accepted, refuse, _▸_, _⇒_}
 use Rattle.rules.specs.Check.{joint, check, isTracked}
 use Rattle.rules.specs.Changes.{pendingTracked, Work, Done, done, full, changes}
 use Rattle.rules.specs.Calls.{start, afterwards, difference, simpleOf, entering, withAuto, enterOf, leaving, gone, removals, leaveOf}

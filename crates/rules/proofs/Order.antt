@@ -1,16 +1,16 @@
 -- Each accepted step is applied, and leaves a state in order. Assumes nothing.
-use Prim.Native.Nat.{ℕ, zero, suc, _+_, _≤_, _<_}
+use Prim.Native.Nat.{ℕ, zero, _≤_}
 use mathlib.Core.Path.{_≡_, refl, ap, _∙_, sym, fun-ext}
 use mathlib.Core.Bool.{Bool, true, false, _&&_, _||_, not, cond, true≢false, false≢true}
-use mathlib.Core.List.{List, [], _∷_, _++_}
+use mathlib.Core.List.{List, [], _∷_}
 use native.Mathlib.Omega.{arith}
-use borrow.Author.Tests.{eq-eqb, ne-eqb, eqb-true, eqb-false, leb-true, le-leb, le-ltb, not-true, not-false}
-use lib.Dec.{eqb, ltb, leb}
+use borrow.Author.Tests.{le-leb, not-true}
+use lib.Dec.{eqb}
 use lib.ListN.{length}
 use Rattle.progress.specs.Record.{freshRecord}
 use Rattle.progress.specs.declared.Progress.{Progress}
-use Rattle.rules.specs.Ids.{ascending, insertAll, memb, sameIds}
-use Rattle.rules.specs.State.{logFormed, Change, Conf, Entry, Kind, Peer, State, addLearner, addNode, confFormed, formed, ids, members, removeNode, setFormed}
+use Rattle.rules.specs.Ids.{insertAll, memb, sameIds}
+use Rattle.rules.specs.State.{logFormed, Change, Conf, Entry, Kind, Peer, State, addLearner, addNode, confFormed, formed, ids, members, removeNode}
 use Rattle.rules.specs.Answers.{Verdict, accepted, fault, ok, passes}
 use Rattle.rules.specs.Check.{check, inOrder, isTracked}
 use Rattle.rules.specs.Table.{I, IO, IOS, L, O, OS, Places, Standing, idle, none, placesOf, standingIn, table}
@@ -22,7 +22,7 @@ use Rattle.rules.proofs.Sets.{and-left, and-right, ascending-all, ascen
 use Rattle.rules.proofs.Plain.{changesBox, stepBox}
 use Rattle.rules.proofs.Boxes.{Sound, spot}
 use Rattle.rules.proofs.Changes.{ids-enrol, last-says}
-use Rattle.rules.proofs.Formed.{Sets, of-sets, Whole, whole-of}
+use Rattle.rules.proofs.Formed.{of-sets, Whole, whole-of}
 use Rattle.rules.proofs.Check.{Passes, passes-of, stands-of}
 use Rattle.rules.proofs.Steps.{Checked, Ordered, Stepped, enter-stepped, isIdle, leave-stepped, ordered-checked, simple-stepped}
 

@@ -1,21 +1,21 @@
 -- What a restore to fresh makes: every record in it is fresh. Assumes nothing.
 use Prim.Native.Nat.{ℕ}
-use mathlib.Core.Path.{_≡_, refl, ap, _∙_, sym}
-use mathlib.Core.Bool.{Bool, true, false, _&&_, _||_, not, cond, true≢false, false≢true}
-use mathlib.Core.List.{List, [], _∷_, _++_, append-nil}
+use mathlib.Core.Path.{_≡_, refl, ap}
+use mathlib.Core.Bool.{Bool, true, false, _&&_, _||_, not, cond, false≢true}
+use mathlib.Core.List.{List, [], _∷_}
 use lib.Dec.{eqb}
 use Rattle.progress.specs.declared.Progress.{Progress}
 use Rattle.progress.specs.Record.{freshRecord}
 use Rattle.rules.specs.Ids.{memb}
-use Rattle.rules.specs.State.{Peer, State, ids, fresh, Kind, Change, ConfState}
+use Rattle.rules.specs.State.{Peer, State, ids, fresh, Change, ConfState}
 use Rattle.rules.specs.Answers.{Verdict, ok, fault}
 use Rattle.rules.specs.Table.{Standing, none, idle, I, L, O, IO, OS, IOS, Effect, stays, adds, removes, table}
 use Rattle.rules.specs.Restore.{Step, simpleStep, enterStep, leaveStep, attempt, restorable, restoreSteps, restore}
-use Rattle.rules.specs.Sequences.{restoreCall, perform, Deed, ifOk, deedsOfRun, deedsOf}
-use Rattle.rules.specs.Boxes.{Found, absent, found, recordOf, Box, boxOf, kept, changeBox, enterBox, leaveRecord, leaveBox, Event, named, replay, naming, stepEvents, events}
+use Rattle.rules.specs.Sequences.{restoreCall, perform, ifOk, deedsOfRun, deedsOf}
+use Rattle.rules.specs.Boxes.{Found, absent, found, recordOf, Box, boxOf, kept, changeBox, enterBox, leaveRecord, named, replay, naming, stepEvents, events}
 use Rattle.rules.proofs.Plain.{replay-append}
 use Rattle.rules.proofs.Steps.{Ordered}
-use Rattle.rules.proofs.Demand3.{Leads, call-leads}
+use Rattle.rules.proofs.Demand3.{call-leads}
 
 -- no record but r
 abbrev Only : Progress → Found → Type 0

@@ -1,11 +1,11 @@
 -- A configuration that was reached from the fresh state, written out and restored to fresh, comes back the same. Assumes nothing.
-use Prim.Native.Nat.{ℕ, zero, suc, _+_, _≤_, _<_}
+use Prim.Native.Nat.{ℕ, zero, _+_, _≤_}
 use mathlib.Core.Path.{_≡_, refl, ap, _∙_, sym}
 use mathlib.Core.Bool.{Bool, true, false, _&&_, _||_, not, cond, true≢false, false≢true}
 use mathlib.Core.List.{List, [], _∷_, _++_}
 use native.Mathlib.Omega.{arith}
-use borrow.Author.Tests.{eq-eqb, ne-eqb, eqb-true, eqb-false, le-leb, not-true, not-false}
-use lib.Dec.{eqb, ltb, leb}
+use borrow.Author.Tests.{ne-eqb, eqb-true, le-leb, not-true}
+use lib.Dec.{eqb}
 use lib.ListN.{length, length-append}
 use Rattle.progress.specs.Record.{freshRecord}
 use Rattle.progress.specs.declared.Progress.{Progress}
@@ -20,7 +20,7 @@ use Rattle.rules.specs.Apply.{applied, enrol, toConfState}
 use Rattle.rules.specs.Restore.{Step, all, ask, enterStep, goOn, oneByOne, restorable, restore, restoreSteps, run, simpleStep, wanted}
 use Rattle.rules.specs.Sequences.{Call, afterCalls, deeds, perform, restoreCall}
 use Rattle.rules.specs.Boxes.{Box, Found, absent, boxOf, changeBox, enterBox, recordOf}
-use Rattle.rules.specs.Demands.{Back, ComesBack}
+use Rattle.rules.specs.Demands.{ComesBack}
 use Rattle.rules.proofs.Sets.{ascending-ext, length-part, memb-head, or-true}
 use Rattle.rules.proofs.Plain.{changesBox}
 use Rattle.rules.proofs.Boxes.{Sound, boxAt, spot}

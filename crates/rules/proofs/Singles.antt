@@ -1,10 +1,10 @@
 -- Steps of one change each, as restore takes them. Assumes nothing.
-use Prim.Native.Nat.{ℕ, zero, suc, _+_, _≤_, _<_}
-use mathlib.Core.Path.{_≡_, refl, ap, _∙_, sym, fun-ext}
+use Prim.Native.Nat.{ℕ, _+_, _≤_}
+use mathlib.Core.Path.{_≡_, refl, ap, _∙_, sym}
 use mathlib.Core.Bool.{Bool, true, false, _&&_, _||_, not, cond, true≢false, false≢true}
 use mathlib.Core.List.{List, [], _∷_, _++_}
 use native.Mathlib.Omega.{arith}
-use borrow.Author.Tests.{ltb-true, eq-eqb, ne-eqb, eqb-true, eqb-false, lt-leb, not-true, not-false}
+use borrow.Author.Tests.{ltb-true, eq-eqb, eqb-true, lt-leb}
 use lib.Dec.{eqb, ltb, leb}
 use lib.ListN.{length}
 use Rattle.progress.specs.Record.{freshRecord}

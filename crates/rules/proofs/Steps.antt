@@ -1,20 +1,20 @@
 -- What each accepted step does to each box. Assumes nothing.
-use Prim.Native.Nat.{ℕ, zero, suc, _+_, _≤_, _<_}
-use mathlib.Core.Path.{_≡_, refl, ap, _∙_, sym, fun-ext}
-use mathlib.Core.Bool.{Bool, true, false, _&&_, _||_, not, cond, true≢false, false≢true}
-use mathlib.Core.List.{List, [], _∷_, _++_}
+use Prim.Native.Nat.{ℕ, zero, suc, _≤_}
+use mathlib.Core.Path.{_≡_, refl, ap, _∙_, sym}
+use mathlib.Core.Bool.{Bool, true, false, _&&_, _||_, not, cond, true≢false}
+use mathlib.Core.List.{List, [], _∷_}
 use native.Mathlib.Omega.{arith}
-use borrow.Author.Tests.{eq-eqb, ne-eqb, eqb-true, eqb-false, leb-true, le-leb, le-ltb, not-true, not-false}
-use lib.Dec.{eqb, ltb, leb}
+use borrow.Author.Tests.{not-false}
+use lib.Dec.{eqb}
 use lib.ListN.{length}
 use Rattle.progress.specs.declared.Progress.{Progress}
 use Rattle.rules.specs.Ids.{ascending, insertAll, isEmpty, memb, minus, removeId}
 use Rattle.rules.specs.State.{Change, Conf, Entry, Peer, State, ids, noConf}
-use Rattle.rules.specs.Answers.{Answer, Verdict, _⇒_, _▸_, accepted, fault, ok, refuse}
+use Rattle.rules.specs.Answers.{accepted, ok}
 use Rattle.rules.specs.Check.{check, isTracked, joint}
 use Rattle.rules.specs.Table.{I, IO, IOS, L, O, OS, Places, Standing, idle, none, places, placesOf, standingIn}
-use Rattle.rules.specs.Changes.{Done, Work, changes, done, full, pending, pendingTracked}
-use Rattle.rules.specs.Calls.{afterwards, difference, enterOf, entering, gone, leaveOf, leaving, removals, simpleOf, start, withAuto}
+use Rattle.rules.specs.Changes.{Work, pending, pendingTracked}
+use Rattle.rules.specs.Calls.{enterOf, entering, gone, leaveOf, leaving, removals, simpleOf, start, withAuto}
 use Rattle.rules.specs.Apply.{enrol, room, untrack}
 use Rattle.rules.specs.Restore.{Step, enterStep, leaveStep, simpleStep}
 use Rattle.rules.specs.Boxes.{Found, absent, enterBox, enterStanding, leaveBox, leaveRecord, leaveStanding, recordOf}
@@ -24,7 +24,7 @@ use Rattle.rules.proofs.Plain.{changesBox, stepBox}
 use Rattle.rules.proofs.Boxes.{Sound, boxAt, spot, standing-places}
 use Rattle.rules.proofs.Changes.{After, Fine, changes-done, now}
 use Rattle.rules.proofs.Means.{Simple, simple-means, Enter, enter-means, Leave, leave-means}
-use Rattle.rules.proofs.Check.{passes-of, refuse-ok, then-left, then-right}
+use Rattle.rules.proofs.Check.{passes-of}
 
 abbrev pub isIdle : Standing → Bool
 isIdle none = false

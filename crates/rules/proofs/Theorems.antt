@@ -1,32 +1,30 @@
 -- What is claimed of the rules, one theorem after the other, for the reader. The P examples are specs/Examples.antt. Assumes nothing.
-use Prim.Native.Nat.{ℕ, _≤_}
-use mathlib.Core.Path.{_≡_, refl, ap, _∙_, sym}
+use Prim.Native.Nat.{ℕ}
+use mathlib.Core.Path.{_≡_, ap, _∙_, sym}
 use mathlib.Core.Bool.{Bool, true, false, _&&_, not, cond}
 use mathlib.Core.List.{List, [], _∷_, _++_}
 use lib.Dec.{eqb}
-use lib.ListN.{length}
 use Rattle.progress.specs.declared.Progress.{Progress}
-use Rattle.progress.specs.Record.{freshRecord}
 use Rattle.rules.specs.Ids.{memb, ascending}
-use Rattle.rules.specs.State.{Conf, Peer, State, ids, members, confFormed, formed, fresh, Change, Entry, ConfState}
-use Rattle.rules.specs.Answers.{Verdict, ok, fault, Answer, accepted, refuse, _▸_}
-use Rattle.rules.specs.Check.{check, checkState, isTracked, inOrder}
-use Rattle.rules.specs.Table.{Places, placesOf, placesIn}
+use Rattle.rules.specs.State.{Conf, Peer, State, ids, members, formed, fresh, Change, Entry}
+use Rattle.rules.specs.Answers.{ok, fault, accepted, refuse, _▸_}
+use Rattle.rules.specs.Check.{check, isTracked, inOrder}
+use Rattle.rules.specs.Table.{placesOf, placesIn}
 use Rattle.rules.specs.Changes.{pendingTracked, Work, done, change}
 use Rattle.rules.specs.Calls.{listOf, readable, simpleOf, simple, enterOf, enterJoint, leaveOf, leaveJoint}
-use Rattle.rules.specs.Apply.{applied, applyConf}
-use Rattle.rules.specs.Restore.{Step, simpleStep, enterStep, leaveStep, ask, applyAnswer}
-use Rattle.rules.specs.Sequences.{Call, simpleCall, enterCall, leaveCall, restoreCall, perform, afterCalls}
-use Rattle.rules.specs.Boxes.{Box, changeBox, Event, replay, naming}
+use Rattle.rules.specs.Apply.{applyConf}
+use Rattle.rules.specs.Restore.{Step, simpleStep, enterStep, leaveStep, ask}
+use Rattle.rules.specs.Sequences.{Call, perform, afterCalls}
+use Rattle.rules.specs.Boxes.{Box, changeBox, naming}
 use Rattle.rules.specs.Rust.{byKind}
 use Rattle.rules.specs.Demands.{Kept, ComesBack}
 use Rattle.rules.proofs.Plain.{changesBox}
-use Rattle.rules.proofs.Boxes.{spot, boxAt, Sound}
+use Rattle.rules.proofs.Boxes.{boxAt}
 use Rattle.rules.proofs.Changes.{now, Fine, After, change-done, tracked-now}
 use Rattle.rules.proofs.Check.{then-left, then-right, refuse-ok}
 use Rattle.rules.proofs.Means.{given-ok, given-then}
 use Rattle.rules.proofs.Order.{stepShort}
-use Rattle.rules.proofs.Applied.{Applied, any-applied}
+use Rattle.rules.proofs.Applied.{any-applied}
 use Rattle.rules.proofs.Demand3.{demand-3, read-short, others-alter-nothing}
 use Rattle.rules.proofs.Table.{change-agrees}
 use Rattle.rules.proofs.Thirteen.{check-never-13, call-never-13}

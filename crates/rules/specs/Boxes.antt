@@ -1,7 +1,7 @@
 -- One box, and its plain replay: demand 3, "each box's standing and record are what a plain replay of the accepted changes naming that
 -- box, with each enter and leave, gives". Assumes nothing.
 use Prim.Native.Nat.{ℕ}
-use mathlib.Core.Bool.{Bool, true, false, _&&_, not, cond}
+use mathlib.Core.Bool.{_&&_, not, cond}
 use mathlib.Core.List.{List, [], _∷_, _++_}
 use lib.Dec.{eqb}
 use Rattle.progress.specs.Record.{freshRecord}

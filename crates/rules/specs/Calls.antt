@@ -1,7 +1,7 @@
 -- `simple`, `enter_joint` and `leave_joint`: document 01, "What one change does to one id", in the order of "Refusal numbers": "1, 2, 3;
 -- then 4, 5 or 6; the check; 15; the changes, stopping at the first 16; 17; 18; the check again." Assumes nothing.
 use Prim.Native.Nat.{ℕ, _+_}
-use mathlib.Core.Bool.{Bool, true, false, _||_, not, cond}
+use mathlib.Core.Bool.{Bool, false, _||_, not, cond}
 use mathlib.Core.List.{List, [], _∷_}
 use lib.ListN.{length}
 use lib.Dec.{eqb, ltb, leb}

@@ -1,6 +1,6 @@
 -- The states that the further examples are asked of. Assumes nothing.
 use Prim.Native.Nat.{ℕ, zero, suc}
-use mathlib.Core.Bool.{Bool, true, false}
+use mathlib.Core.Bool.{true}
 use mathlib.Core.List.{List, [], _∷_}
 use Rattle.rules.specs.State.{Conf, State, fresh, ConfState}
 use Rattle.rules.specs.Rows.{old, olds, conf, of}

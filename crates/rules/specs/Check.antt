@@ -1,7 +1,6 @@
 -- The check, and in order: document 01, under the table of refusal numbers and in "The state and its numbers". Assumes nothing.
 use Prim.Native.Nat.{ℕ}
-use mathlib.Core.Bool.{Bool, true, false, _&&_, not}
-use mathlib.Core.List.{List, [], _∷_}
+use mathlib.Core.Bool.{Bool, _&&_, not}
 use Rattle.rules.specs.Ids.{insertAll, isEmpty, memb, sameIds}
 use Rattle.rules.specs.State.{Conf, State, formed, ids, members}
 use Rattle.rules.specs.Answers.{Verdict, _▸_, each, passes, refuse}

@@ -1,7 +1,7 @@
 -- What demands 2 and 3 ask of the rules, as statements; proofs/Demand3.antt and proofs/RoundTrip.antt prove them. Assumes nothing.
 use Prim.Native.Nat.{ℕ}
 use mathlib.Core.Path.{_≡_}
-use mathlib.Core.Bool.{Bool, true}
+use mathlib.Core.Bool.{true}
 use mathlib.Core.List.{List}
 use Rattle.progress.specs.Record.{freshRecord}
 use Rattle.rules.specs.Ids.{memb}

@@ -1,7 +1,6 @@
 -- The examples of document 01 that are marked P: rows of a single table, under one claim. Assumes nothing.
-use Prim.Native.Nat.{ℕ}
 use mathlib.Core.Path.{_≡_, refl}
-use mathlib.Core.Bool.{Bool, true, false}
+use mathlib.Core.Bool.{false}
 use mathlib.Core.List.{List, [], _∷_}
 use Rattle.rules.specs.Ids.{memb, above, ascending, insertId, insertAll, removeId, minus}
 use Rattle.rules.specs.State.{State, ids, confFormed, formed, fresh, add, remove, logFormed}

@@ -8,7 +8,7 @@ use Rattle.rules.specs.State.{Conf, State, ids, confFormed, formed, noCo
 use Rattle.rules.specs.Answers.{Verdict, ok, fault, Outcome, each}
 use Rattle.rules.specs.Check.{check, checkState, inOrder}
 use Rattle.rules.specs.Apply.{track, untrack, room, enrol, applyConf, noConfState, toConfState}
-use Rattle.rules.specs.Rows.{old, new, olds, conf, of}
+use Rattle.rules.specs.Rows.{new, olds, conf, of}
 use Rattle.rules.specs.Cases.{s0, s1, flagged, down, m1, m5, s14, s15, s17, upTo}
 
 -- ** The check: 7 to 12, each in its place, and 14

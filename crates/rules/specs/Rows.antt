@@ -1,6 +1,6 @@
 -- The form of the checked examples: a state, a call, and what document 01 says of it. Assumes nothing.
 use Prim.Native.Nat.{ℕ}
-use mathlib.Core.Bool.{Bool, true, false}
+use mathlib.Core.Bool.{false}
 use mathlib.Core.List.{List, [], _∷_}
 use Rattle.progress.specs.Record.{freshRecord}
 use Rattle.rules.specs.State.{Conf, Peer, State, Entry, ConfState}

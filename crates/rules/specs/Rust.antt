@@ -1,6 +1,6 @@
 -- `make_voter`, `make_learner` and `remove` of changer.rs, line by line, on sets and the pending log. Assumes nothing.
 use Prim.Native.Nat.{ℕ}
-use mathlib.Core.Bool.{Bool, true, false, not, cond}
+use mathlib.Core.Bool.{Bool, not, cond}
 use mathlib.Core.List.{List, [], _∷_, _++_}
 use Rattle.rules.specs.Ids.{insertId, memb, removeId}
 use Rattle.rules.specs.State.{Conf, Entry, Kind, add, addLearner, addNode, remove, removeNode}

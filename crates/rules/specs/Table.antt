@@ -1,7 +1,7 @@
 -- The table of standings: document 01, "What one change does to one id". Assumes nothing.
 use Prim.Native.Nat.{ℕ}
 use mathlib.Core.Bool.{Bool, true, false, not, cond}
-use mathlib.Core.List.{List, [], _∷_}
+use mathlib.Core.List.{List}
 use Rattle.rules.specs.Ids.{insertId, memb, removeId}
 use Rattle.rules.specs.State.{Conf, Kind, addLearner, addNode, removeNode}
 

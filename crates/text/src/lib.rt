@@ -2,7 +2,7 @@
 // place where it ends; the same functions count, on a short slice, and write, on the real one.
 ghost use mathlib.Core.List.{[], _∷_};
 ghost use mathlib.Core.Path.{_≡_};
-ghost use Prim.Native.Nat.{_+_, _-_, _^_, min};
+ghost use Prim.Native.Nat.{_+_, _-_, min};
 ghost use Rattle.text.specs.Text.{decimal, each, spaced, words, group};
 ghost use Rattle.text.specs.Put.{Put, last};
 

@@ -1,7 +1,7 @@
 -- What `apply_conf` answers and leaves, for every state, configuration and log: the rules' `applyConf` through the bridge, and 1 where
 -- one of the three is malformed. Assumes nothing.
 use Prim.Native.Nat.{ℕ}
-use mathlib.Core.Bool.{Bool, true, false, _&&_, cond}
+use mathlib.Core.Bool.{_&&_, cond}
 use Rattle.rules.specs.Answers as rules
 use Rattle.rules.specs.Answers.{ok, fault}
 use Rattle.rules.specs.Apply.{applyConf}

@@ -1,6 +1,5 @@
 -- What `to_conf_state` answers, for every state: the rules' `toConfState` through the bridge. Assumes nothing.
-use Prim.Native.Nat.{ℕ}
-use mathlib.Core.Bool.{Bool, true, false, cond}
+use mathlib.Core.Bool.{cond}
 use Rattle.rules.specs.Answers.{fault}
 use Rattle.rules.specs.Apply as rules
 use Rattle.rules.specs.Apply.{noConfState, toConfState}

@@ -1,7 +1,6 @@
 -- Well formed: document 01, "The state and its numbers": "Each set and the tracked list hold at most 64 ids, strictly ascending; unused
 -- places hold zero, unused records the default state, zeros and false. Anything else is malformed, as is a log with a count over 256 or an
 -- unused place other than Add of 0." Assumes nothing.
-use Prim.Native.Nat.{ℕ}
 use mathlib.Core.Bool.{Bool, true, false, _&&_}
 use mathlib.Core.List.{List, [], _∷_}
 use lib.Dec.{eqb, leb}

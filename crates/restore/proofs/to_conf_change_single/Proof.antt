@@ -1,5 +1,4 @@
 -- `to_conf_change_single`: the four lists one behind the other. Assumes nothing.
-use borrow.Author.Needs.{needs}
 use mathlib.Core.Path.{refl}
 use native.Mathlib.Omega.{arith}
 use Rattle.restore.proofs.Answers.{Short, not-long}

@@ -1,5 +1,4 @@
 -- `too_long` tests the four lists, as the definition does. Assumes nothing.
-use borrow.Author.Needs.{needs}
 use Rattle.restore.proofs.Answers.{long-1, long-2, long-3, long-4}
 use Rattle.restore.proofs.too_long.Statement.{statement}
 use Rattle.restore.proofs.too_long.Tie as tie
