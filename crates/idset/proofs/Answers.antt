@@ -72,7 +72,7 @@ module _ (s : IdSet) (x : ℕ) (long : length (s .ids) ≡ 64) (at : ℕ) (a : a
     pub remove-over : 64 ≤ at → _≡_ {A = Removed} (record { set = s; changed = false }) (removeOf x s)
     remove-over k = remove-none (omega (arith, length-take (s .len) (s .ids)))
 
-    pub remove-found : at < 64 → (l : List ℕ) → l ≡ removeAt at (s .ids) → _≡_ {A = Removed} (record { set = record { ids = l; len = s .len - 1 }; changed = true }) (removeOf x s)
+    pub remove-found : at < 64 → (l : List ℕ) → l ≡ removeAt at 0 (s .ids) → _≡_ {A = Removed} (record { set = record { ids = l; len = s .len - 1 }; changed = true }) (removeOf x s)
     unfolding removeOf
     remove-found k l i =
         let m : at < length (held s) = omega (arith, length-take (s .len) (s .ids)) in

@@ -3,13 +3,12 @@
 use Prim.Native.Nat.{ℕ, zero, suc, _+_, _-_, _≤_, _<_}
 use mathlib.Core.Path.{_≡_, refl, ap, _∙_, sym}
 use mathlib.Core.Bool.{Bool, true, false, _&&_, not, cond}
-use mathlib.Core.List.{List, [], _∷_, _++_, append-assoc}
-use native.Mathlib.Nat.{not-suc-le-zero}
+use mathlib.Core.List.{List, [], _∷_, _++_}
 use native.Mathlib.Omega.{arith}
 use borrow.Author.Tests.{eq-eqb, eqb-true, leb-true, leb-false, le-leb, lt-leb}
 use lib.Dec.{eqb, leb}
-use lib.ListN.{length, take, drop, replicate, length-drop, length-append, length-replicate, take-append-drop, replicate-append-replicate}
-use lib.Seq.{length-take-le, take-append-seam, drop-append-seam, take-append-le, drop-append-le, take-append-add}
+use lib.ListN.{length, drop, replicate, length-drop, length-append, length-replicate, take-append-drop}
+use lib.Seq.{length-take-le, take-append-seam, drop-append-seam}
 use Rattle.rules.specs.Ids.{ascending, insertAll, insertId, memb, removeId}
 use Rattle.rules.proofs.Sets.{and-left, and-right, insert-same, length-remove, remove-none}
 use Rattle.idset.specs.Places.{zeros, rank, placeOf, insertAt, removeAt}
@@ -18,6 +17,7 @@ use Rattle.idset.specs.declared.IdSet.{IdSet}
 use Rattle.idset.specs.declared.Inserted.{Inserted}
 use Rattle.idset.specs.declared.Removed.{Removed}
 use Rattle.idset.proofs.Places.{rank-le, insert-split, length-insert, place-within, remove-split}
+use Rattle.idset.proofs.Padded.{insert-padded, remove-padded}
 use Rattle.idset.proofs.Merge.{merge-all}
 pub use Rattle.idset.proofs.Merge.{merge-all, all-swap}
 pub use Rattle.idset.proofs.Difference.{walk-decides}
@@ -96,37 +96,14 @@ set-formed xs a h =
       clear = ap zeros (drop-append-seam xs (replicate (64 - length xs) 0)) ∙ zeros-replicate (64 - length xs);
     })
 
--- ** Insert
+-- ** Insert and remove
 
-take-replicate : (m k : ℕ) → m ≤ k → take {A = ℕ} m (replicate k 0) ≡ replicate m 0
-take-replicate zero k h = refl
-take-replicate (suc m) zero h = absurd (not-suc-le-zero h)
-take-replicate (suc m) (suc k) h = ap (λ (l : List ℕ). 0 ∷ l) (take-replicate m k (omega arith))
+module _ (x : ℕ) (xs : List ℕ) where
+  insert-places : memb x xs ≡ false → length xs < 64 → insertAt (rank x xs) x (xs ++ replicate (64 - length xs) 0) ≡ insertId x xs ++ replicate (64 - length (insertId x xs)) 0
+  insert-places h k = rw (insert-split x xs h) (insert-padded 0 (rank x xs) xs x (rank-le x xs) k)
 
-module _ (x : ℕ) (xs : List ℕ) (h : memb x xs ≡ false) where
-  insert-places : length xs < 64 → insertAt (rank x xs) x (xs ++ replicate (64 - length xs) 0) ≡ insertId x xs ++ replicate (64 - length (insertId x xs)) 0
-  unfolding insertAt
-  insert-places k =
-      let p : ℕ = rank x xs in
-      let z : List ℕ = replicate (64 - length xs) 0 in
-      let m : ℕ = 64 - length (insertId x xs) in
-      let le : p ≤ length xs = rank-le x xs in
-      let total : length (xs ++ z) ≡ length (insertId x xs) + m = omega (arith, length-append xs z, length-replicate {A = ℕ} (64 - length xs) 0, length-insert x xs h) in
-      let whole : take p (xs ++ z) ++ (x ∷ drop p (xs ++ z)) ≡ insertId x xs ++ z = rw (take-append-le p xs z le, drop-append-le p xs z le, insert-split x xs h, append-assoc) in
-      rw (total, whole, take-append-add (insertId x xs) z m, take-replicate m (64 - length xs) (omega (arith, length-insert x xs h)))
-
--- ** Remove
-
-module _ (x : ℕ) (xs : List ℕ) (h : memb x xs ≡ true) where
-  remove-places : length xs ≤ 64 → removeAt (placeOf x xs) (xs ++ replicate (64 - length xs) 0) ≡ removeId x xs ++ replicate (64 - length (removeId x xs)) 0
-  unfolding removeAt
-  remove-places r =
-      let p : ℕ = placeOf x xs in
-      let z : List ℕ = replicate (64 - length xs) 0 in
-      let le : p ≤ length xs = omega (arith, place-within x xs h) in
-      let le1 : p + 1 ≤ length xs = omega (arith, place-within x xs h) in
-      let more : 64 - length (removeId x xs) ≡ 64 - length xs + 1 = omega (arith, length-remove x xs h, place-within x xs h) in
-      rw (take-append-le p xs z le, drop-append-le (p + 1) xs z le1, ← append-assoc, ← remove-split x xs h, append-assoc, more, ← replicate-append-replicate)
+  remove-places : memb x xs ≡ true → length xs ≤ 64 → removeAt (placeOf x xs) 0 (xs ++ replicate (64 - length xs) 0) ≡ removeId x xs ++ replicate (64 - length (removeId x xs)) 0
+  remove-places h r = rw (remove-split x xs h) (remove-padded 0 (placeOf x xs) xs (place-within x xs h) r)
 
 -- ** The operations
 
@@ -164,11 +141,11 @@ module _ (x : ℕ) (s : IdSet) (w : wellFormed s ≡ true) where
   remove-formed = go (memb x (held s)) refl
     where
       go : (b : Bool) → memb x (held s) ≡ b
-          → _≡_ {A = Removed} (cond b (record { set = record { ids = removeAt (placeOf x (held s)) (s .ids); len = s .len - 1 }; changed = true }) (record { set = s; changed = false }))
+          → _≡_ {A = Removed} (cond b (record { set = record { ids = removeAt (placeOf x (held s)) 0 (s .ids); len = s .len - 1 }; changed = true }) (record { set = s; changed = false }))
           (record { set = setOf (removeId x (held s)); changed = b })
       go true m =
           let l : s .len - 1 ≡ length (removeId x (held s)) = omega (arith, length-held s w, length-remove x (held s) m) in
-          let p : removeAt (placeOf x (held s)) (s .ids) ≡ removeId x (held s) ++ replicate (64 - length (removeId x (held s))) 0 = ap (removeAt (placeOf x (held s))) (padded s w) ∙ remove-places x (held s) m (held-few s w) in
+          let p : removeAt (placeOf x (held s)) 0 (s .ids) ≡ removeId x (held s) ++ replicate (64 - length (removeId x (held s))) 0 = ap (removeAt (placeOf x (held s)) 0) (padded s w) ∙ remove-places x (held s) m (held-few s w) in
           λ i. record { set = record { ids = p i; len = l i }; changed = true }
       go false m = ap (λ (t : IdSet). record { set = t; changed = false }) (sym (ap setOf (remove-none x (held s) m) ∙ set-held s w))
 

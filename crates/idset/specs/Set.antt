@@ -41,7 +41,7 @@ insertOf x s =
 unfoldable pub removeOf : ℕ → IdSet → Removed
 removeOf x s =
     cond (memb x (held s))
-    (record { set = record { ids = removeAt (placeOf x (held s)) (s .ids); len = s .len - 1 }; changed = true })
+    (record { set = record { ids = removeAt (placeOf x (held s)) 0 (s .ids); len = s .len - 1 }; changed = true })
     (record { set = s; changed = false })
 
 -- all ids of both, where there is room for them

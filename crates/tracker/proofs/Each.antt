@@ -7,7 +7,7 @@ use mathlib.Core.List.{List, [], _∷_, _++_}
 use native.Mathlib.Numerals.{add-one}
 use native.Mathlib.Omega.{arith}
 use borrow.Author.Tests.{not-true, not-false}
-use lib.ListN.{length, take, drop, getD, replicate, length-append, length-drop, length-replicate, drop-of-length-le, take-append-drop}
+use lib.ListN.{length, take, drop, getD, replicate, length-drop, drop-of-length-le, take-append-drop}
 use lib.Seq.{drop-at, drop-cons}
 use Rattle.rules.proofs.Sets.{and-left, and-right}
 
@@ -56,6 +56,3 @@ module _ {A : Type 0} {p : A → Bool} {all : List A → Bool} (e : Each p all) 
 
   pub each-clear : p x ≡ true → (k n : ℕ) (xs : List A) → length xs ≡ n → all (drop n (xs ++ replicate k x)) ≡ true
   each-clear t k n xs h = rw (drop-at xs (replicate k x) n h) (each-replicate t k)
-
-pub padded-long : {A : Type 0} (x : A) (m n : ℕ) (xs : List A) → length xs ≡ n → n ≤ m → length (xs ++ replicate (m - n) x) ≡ m
-padded-long x m n xs h k = omega (arith, length-append xs (replicate (m - n) x), length-replicate (m - n) x)

@@ -14,7 +14,7 @@ use Rattle.rules.specs.Apply.{track, untrack}
 use Rattle.rules.proofs.Sets.{insert-same, length-insert-le}
 use Rattle.rules.proofs.Peers.{ids-track, ids-untrack}
 use Rattle.rules.proofs.Formed as R
-use Rattle.idset.specs.Places.{rank, firstIs}
+use Rattle.idset.specs.Places.{rank, firstIs, insertAt, removeAt}
 use Rattle.idset.specs.Set.{held, insertOf, removeOf}
 use Rattle.idset.specs.declared.IdSet.{IdSet}
 use Rattle.idset.specs.declared.Inserted.{Inserted}
@@ -22,13 +22,13 @@ use Rattle.idset.specs.declared.Removed.{Removed}
 use Rattle.idset.proofs.Places.{rank-le}
 use Rattle.idset.proofs.Bridge.{length-held, held-rises, insert-fits, remove-formed, found-at}
 use Rattle.tracker.specs.Bridge.{peersOf, recordsOf, recordPlaces, entryOf}
-use Rattle.tracker.specs.Enrol.{Rostered, enterIn, insertPlace, removePlace}
+use Rattle.tracker.specs.Enrol.{Rostered, enterIn}
 use Rattle.tracker.specs.declared.MapChange.{MapChange}
 use Rattle.tracker.specs.declared.MapChangeType.the-variants.{Add, Remove}
 use Rattle.tracker.specs.declared.apply.Peers.{Peers}
 use Rattle.tracker.proofs.Confs.{set-ids}
 use Rattle.tracker.proofs.Peers.{length-ids, length-records, roster-ids, roster-set, roster-places}
-use Rattle.tracker.proofs.PlacesPadded.{padded, set-padded, insert-padded, remove-padded}
+use Rattle.idset.proofs.Padded.{padded, set-padded, insert-padded, remove-padded}
 use Rattle.tracker.proofs.EnrolPeers.{rank-within, track-new, track-over, untrack-gone, untrack-none}
 
 -- ** By place
@@ -41,7 +41,7 @@ module _ (x : ℕ) (ps : List Peer) where
   same-length : length (recordsOf ps) ≡ length (ids ps)
   same-length = length-records ps ∙ sym (length-ids ps)
 
-  pub places-new : (r : Progress) → memb x (ids ps) ≡ false → length (ids ps) < 64 → recordPlaces (track x r ps) ≡ insertPlace (rank x (ids ps)) r (recordPlaces ps)
+  pub places-new : (r : Progress) → memb x (ids ps) ≡ false → length (ids ps) < 64 → recordPlaces (track x r ps) ≡ insertAt (rank x (ids ps)) r (recordPlaces ps)
   places-new r m h =
       let k : rank x (ids ps) ≤ length (recordsOf ps) = omega (arith, same-length, rank-le x (ids ps)) in
       let l : length (recordsOf ps) < 64 = omega (arith, same-length) in
@@ -54,7 +54,7 @@ module _ (x : ℕ) (ps : List Peer) where
     pub places-over : (r : Progress) → recordPlaces (track x r ps) ≡ set (recordPlaces ps) (rank x (ids ps)) r
     places-over r = rw (places (track x r ps), places ps, track-over x r ps a m) (sym (set-padded unusedRecord (rank x (ids ps)) (recordsOf ps) r within))
 
-    pub places-gone : length (ids ps) ≤ 64 → recordPlaces (untrack x ps) ≡ removePlace (rank x (ids ps)) unusedRecord (recordPlaces ps)
+    pub places-gone : length (ids ps) ≤ 64 → recordPlaces (untrack x ps) ≡ removeAt (rank x (ids ps)) unusedRecord (recordPlaces ps)
     places-gone h =
         let l : length (recordsOf ps) ≤ 64 = omega (arith, same-length) in
         rw (places (untrack x ps), places ps, untrack-gone x ps a m) (sym (remove-padded unusedRecord (rank x (ids ps)) (recordsOf ps) within l))
@@ -103,7 +103,7 @@ module _ {s : IdSet} {rs : List Progress} (o : Rostered s rs) (x at : ℕ) (f : 
           let k : 64 ≤ length (ids ps) = omega (arith, count) in
           rw (none, le-leb _ _ k, roster-set o, roster-places o)
 
-      pub add-new : s .len < 64 → (l : List Progress) → l ≡ insertPlace at r rs → (g : Inserted) → g ≡ insertOf x s
+      pub add-new : s .len < 64 → (l : List Progress) → l ≡ insertAt at r rs → (g : Inserted) → g ≡ insertOf x s
           → _≡_ {A = Peers} (record { ids = g .set; records = l; full = false; id = 0 }) (enterIn r (add x) (peersOf (held s) rs))
       unfolding enterIn
       add-new h l i g j =
@@ -117,7 +117,7 @@ module _ {s : IdSet} {rs : List Progress} (o : Rostered s rs) (x at : ℕ) (f : 
   unfolding enterIn
   remove-none t = rw (untrack-none x ps (sym tells ∙ not-true b t), roster-set o, roster-places o)
 
-  pub remove-gone : not b ≡ false → (l : List Progress) → l ≡ removePlace at unusedRecord rs → (g : Removed) → g ≡ removeOf x s
+  pub remove-gone : not b ≡ false → (l : List Progress) → l ≡ removeAt at unusedRecord rs → (g : Removed) → g ≡ removeOf x s
       → _≡_ {A = Peers} (record { ids = g .set; records = l; full = false; id = 0 }) (enterIn unusedRecord (remove x) (peersOf (held s) rs))
   unfolding enterIn
   remove-gone t l i g j =

@@ -6,8 +6,6 @@ pub mod Peers
 pub mod Logs
 pub mod Bridge
 pub mod Answers
-pub mod PlacesShift
-pub mod PlacesPadded
 pub mod EnrolPeers
 pub mod EnrolEntry
 pub mod EnrolLog

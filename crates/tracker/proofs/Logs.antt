@@ -16,7 +16,8 @@ use Rattle.tracker.specs.declared.MapChange.{MapChange}
 use Rattle.tracker.specs.declared.MapChangeType.{MapChangeType}
 use Rattle.tracker.specs.declared.MapChangeType.the-variants.{Add, Remove}
 use Rattle.tracker.specs.declared.ChangeLog.{ChangeLog}
-use Rattle.tracker.proofs.Each.{each-tail, each-clear, padded-long}
+use Rattle.idset.proofs.Padded.{padded-long}
+use Rattle.tracker.proofs.Each.{each-tail, each-clear}
 use Rattle.tracker.proofs.Places.{blank-each, blank-is, is-blank}
 
 -- ** Entries

@@ -22,7 +22,8 @@ use Rattle.tracker.specs.Bridge.{confOf, peersOf, recordsOf, recordPlace
 use Rattle.tracker.specs.Form.{confWellFormed, allUnused, trackerWellFormed}
 use Rattle.tracker.specs.Enrol.{Rostered}
 use Rattle.tracker.specs.declared.Tracker.{Tracker}
-use Rattle.tracker.proofs.Each.{each-tail, each-clear, padded-long}
+use Rattle.idset.proofs.Padded.{padded-long}
+use Rattle.tracker.proofs.Each.{each-tail, each-clear}
 use Rattle.tracker.proofs.Places.{unused-each}
 use Rattle.tracker.proofs.Confs.{set-ids, ids-set, unit-conf, conf-formed, conf-back, conf-well}
 

@@ -1,10 +1,10 @@
 -- The tracked ids and their records in two arrays, and what one log entry makes of them. Assumes nothing.
-use Prim.Native.Nat.{ℕ, _+_}
+use Prim.Native.Nat.{ℕ}
 use mathlib.Core.Path.{_≡_}
 use mathlib.Core.Bool.{Bool, true, false, _&&_, not, cond}
-use mathlib.Core.List.{List, [], _∷_, _++_}
+use mathlib.Core.List.{List, [], _∷_}
 use lib.Dec.{leb}
-use lib.ListN.{length, take, drop}
+use lib.ListN.{length, drop}
 use Rattle.progress.specs.declared.Progress.{Progress}
 use Rattle.rules.specs.Ids.{memb}
 use Rattle.rules.specs.State.{Peer, ids, Entry, add, remove}
@@ -37,11 +37,3 @@ unfoldable pub enrolIn : Progress → List Entry → List Peer → Peers
 enrolIn r [] ps = rosterOf false 0 ps
 enrolIn r (add x ∷ es) ps = cond (not (memb x (ids ps)) && leb 64 (length (ids ps))) (rosterOf true x ps) (enrolIn r es (track x r ps))
 enrolIn r (remove x ∷ es) ps = enrolIn r es (untrack x ps)
-
--- a list with e at place n, as long as it was: the last is dropped
-unfoldable pub insertPlace : {A : Type 0} → ℕ → A → List A → List A
-insertPlace n e l = take (length l) (take n l ++ (e ∷ drop n l))
-
--- a list without its place n, as long as it was: the last is e
-unfoldable pub removePlace : {A : Type 0} → ℕ → A → List A → List A
-removePlace n e l = (take n l ++ drop (n + 1) l) ++ (e ∷ [])

@@ -16,7 +16,8 @@ ghost use Rattle.rules.specs.State.{add, remove};
 ghost use Rattle.idset.specs.Set.{held};
 ghost use Rattle.tracker.specs.Bridge.{peersOf, entryOf, logOf};
 ghost use Rattle.tracker.specs.Apply.{applyOf, verdictIn, refusedOf};
-ghost use Rattle.tracker.specs.Enrol.{Rostered, peersIn, enterIn, enrolIn, insertPlace, removePlace};
+ghost use Rattle.idset.specs.Places.{insertAt, removeAt};
+ghost use Rattle.tracker.specs.Enrol.{Rostered, peersIn, enterIn, enrolIn};
 
 // The tracked ids with their records, and the id for which there was no room.
 pub struct Peers {
@@ -191,7 +192,7 @@ fn untrack(p: Peers, id: u64) -> Peers
 
 // `records` with `r` at the place `at`: those from there on stand one place later, and the last is dropped.
 fn insert_record(records: [Progress; 64], at: usize, r: Progress) -> [Progress; 64]
-    ensures { λ q. ⌜ q ≡ insertPlace at r records ⌝ }
+    ensures { λ q. ⌜ q ≡ insertAt at r records ⌝ }
 {
     let mut out = records;
     let mut carried = r;
@@ -208,7 +209,7 @@ fn insert_record(records: [Progress; 64], at: usize, r: Progress) -> [Progress; 
 // `records` without the place `at`: those after it stand one place earlier, and the last place is unused.
 fn remove_record(records: [Progress; 64], at: usize) -> [Progress; 64]
     requires { ⌜ at < 64 ⌝ }
-    ensures { λ q. ⌜ q ≡ removePlace at unusedRecord records ⌝ }
+    ensures { λ q. ⌜ q ≡ removeAt at unusedRecord records ⌝ }
 {
     let mut out = records;
     let mut i = at;

@@ -1,7 +1,7 @@
 -- `insert_record` carries the displaced record from place to place. Assumes nothing.
 use borrow.Author.Needs.{needs}
 use Prim.Native.Nat.{_-_}
-use Rattle.tracker.proofs.PlacesShift.{Making, make-start, make-end, make-next}
+use Rattle.idset.proofs.Shift.{Making, make-start, make-end, make-next}
 use Rattle.tracker.proofs.apply.insert_record.Statement.{statement}
 use Rattle.tracker.proofs.apply.insert_record.Tie as tie
 

@@ -1,7 +1,7 @@
 -- `remove_record` moves the gap to the last place, which gets the unused record. Assumes nothing.
 use borrow.Author.Needs.{needs}
 use Prim.Native.Nat.{_-_}
-use Rattle.tracker.proofs.PlacesShift.{Closing, close-start, close-end, close-next}
+use Rattle.idset.proofs.Shift.{Closing, close-start, close-end, close-next}
 use Rattle.tracker.proofs.apply.remove_record.Statement.{statement}
 use Rattle.tracker.proofs.apply.remove_record.Tie as tie
 

@@ -5,10 +5,12 @@ use mathlib.Core.Path.{_≡_, refl, ap}
 use mathlib.Core.List.{List, _∷_, _++_, append-assoc}
 use native.Mathlib.Nat.{not-suc-le-zero}
 use native.Mathlib.Omega.{arith}
-use lib.ListN.{length, take, drop, set, replicate, length-take, length-drop, length-set, length-append, replicate-append-replicate}
+use lib.ListN.{length, take, drop, set, replicate, length-take, length-drop, length-set, length-append, length-replicate, replicate-append-replicate}
 use lib.Seq.{take-append-le, drop-append-le, take-append-add, set-append-left}
-use Rattle.tracker.specs.Enrol.{insertPlace, removePlace}
-use Rattle.tracker.proofs.Each.{padded-long}
+use Rattle.idset.specs.Places.{insertAt, removeAt}
+
+pub padded-long : {A : Type 0} (x : A) (m n : ℕ) (xs : List A) → length xs ≡ n → n ≤ m → length (xs ++ replicate (m - n) x) ≡ m
+padded-long x m n xs h k = omega (arith, length-append xs (replicate (m - n) x), length-replicate (m - n) x)
 
 take-replicate : {A : Type 0} (m k : ℕ) (u : A) → m ≤ k → take m (replicate k u) ≡ replicate m u
 take-replicate zero k u h = refl
@@ -23,8 +25,8 @@ module _ {A : Type 0} (u : A) where
     pub set-padded : (e : A) → k < length l → set (padded l) k e ≡ padded (set l k e)
     set-padded e h = rw (set-append-left l (replicate (64 - length l) u) k e h, length-set l k e)
 
-    pub insert-padded : (e : A) → k ≤ length l → length l < 64 → insertPlace k e (padded l) ≡ padded (take k l ++ (e ∷ drop k l))
-    unfolding insertPlace
+    pub insert-padded : (e : A) → k ≤ length l → length l < 64 → insertAt k e (padded l) ≡ padded (take k l ++ (e ∷ drop k l))
+    unfolding insertAt
     insert-padded e h r =
         let w : List A = take k l ++ (e ∷ drop k l) in
         let z : List A = replicate (64 - length l) u in
@@ -34,8 +36,8 @@ module _ {A : Type 0} (u : A) where
         let whole : take k (l ++ z) ++ (e ∷ drop k (l ++ z)) ≡ w ++ z = rw (take-append-le k l z h, drop-append-le k l z h, append-assoc) in
         rw (total, whole, take-append-add w z (64 - length w), take-replicate (64 - length w) (64 - length l) u less)
 
-    pub remove-padded : k < length l → length l ≤ 64 → removePlace k u (padded l) ≡ padded (take k l ++ drop (k + 1) l)
-    unfolding removePlace
+    pub remove-padded : k < length l → length l ≤ 64 → removeAt k u (padded l) ≡ padded (take k l ++ drop (k + 1) l)
+    unfolding removeAt
     remove-padded h r =
         let w : List A = take k l ++ drop (k + 1) l in
         let z : List A = replicate (64 - length l) u in
