@@ -2,13 +2,12 @@
 use Prim.Native.Nat.{ℕ, _+_, _≤_, _<_}
 use mathlib.Core.Path.{_≡_, refl, sym, _∙_}
 use mathlib.Core.Bool.{Bool, true, false}
-use mathlib.Core.List.{List, [], _∷_}
-use native.Mathlib.Numerals.{add-one}
+use mathlib.Core.List.{List, _∷_}
 use native.Mathlib.Omega.{arith}
 use borrow.Author.Tests.{eq-eqb, ne-eqb}
-use lib.ListN.{length, take, drop, getD, length-take, drop-of-length-le}
-use lib.Seq.{drop-cons, getD-take}
+use lib.ListN.{length, take, drop, getD}
 use Rattle.rules.specs.Changes.{lastSays}
+use Rattle.idset.proofs.Part.{part-more, part-end, part-out}
 use Rattle.tracker.specs.Bridge.{entry, entryOf, entriesOf}
 use Rattle.tracker.specs.declared.MapChange.{MapChange}
 use Rattle.tracker.specs.declared.MapChangeType.{MapChangeType}
@@ -40,18 +39,6 @@ says-cons x e es b = go (e .kind)
 
 -- ** The scan
 
-module _ (n : ℕ) (l : List MapChange) (i : ℕ) where
-  left-cons : i < n → i < length l → (d : MapChange) → drop i (take n l) ≡ getD l i d ∷ drop (i + 1) (take n l)
-  left-cons h k d =
-      let j : i < length (take n l) = simp length-take (omega arith) in
-      rw (add-one, drop-cons (take n l) i d j, getD-take n l i d h)
-
-  left-none : n ≤ i → drop i (take n l) ≡ []
-  left-none h = drop-of-length-le (take n l) {i = i} (simp length-take (omega arith))
-
-  left-out : length l ≤ i → drop i (take n l) ≡ []
-  left-out h = drop-of-length-le (take n l) {i = i} (simp length-take (omega arith))
-
 -- a scan for x that has passed i of the first n entries of l, and so far answers b
 pub record Saying (x n : ℕ) (l : List MapChange) (known b : Bool) (i : ℕ) : Type 0 where
   pub sized : length l ≡ 256
@@ -60,14 +47,14 @@ pub record Saying (x n : ℕ) (l : List MapChange) (known b : Bool) (i : ℕ) : 
 module _ {x n : ℕ} {l : List MapChange} {known b : Bool} {i : ℕ} (s : Saying x n l known b i) where
   pub says-end : n ≤ i → b ≡ lastSays x (entriesOf (take n l)) known
   unfolding entriesOf lastSays
-  says-end h = rw (left-none n l i h) at (s .same)
+  says-end h = rw (part-end n l i h) at (s .same)
 
   pub says-out : 256 ≤ i → b ≡ lastSays x (entriesOf (take n l)) known
   unfolding entriesOf lastSays
-  says-out h = let k : length l ≤ i = omega (arith, s) in rw (left-out n l i k) at (s .same)
+  says-out h = let k : length l ≤ i = omega (arith, s) in rw (part-out n l i k) at (s .same)
 
   pub says-next : (d : MapChange) (b′ : Bool) → i < n → i < 256 → b′ ≡ entrySays x (entryOf (getD l i d)) b → Saying x n l known b′ (i + 1)
   says-next d b′ h k e = let j : i < length l = omega (arith, s) in record {
     sized = s .sized;
-    same = rw e (sym (says-cons x (getD l i d) (drop (i + 1) (take n l)) b) ∙ rw (← left-cons n l i h j d) (s .same));
+    same = rw e (sym (says-cons x (getD l i d) (drop (i + 1) (take n l)) b) ∙ rw (← part-more d n l i h j) (s .same));
   }

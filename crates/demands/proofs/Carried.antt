@@ -12,6 +12,7 @@ use Rattle.rules.specs.Restore.{applyAnswer, restorable, restoreSteps}
 use Rattle.rules.specs.Sequences as rules
 use Rattle.rules.specs.Sequences.{Deed, ifOk}
 use Rattle.rules.proofs.Demand3.{restore-short}
+use Rattle.rules.proofs.Numbers.{Numbered}
 use Rattle.tracker.specs.Apply.{outcomeOf}
 use Rattle.tracker.specs.Bridge.{listsOf, stateOf}
 use Rattle.tracker.specs.Form.{trackerWellFormed}
@@ -36,7 +37,7 @@ record Is (t : Tracker) (c : Call) (r : rules.Call) : Type 0 where
 
 -- what counts as accepted
 accepts : (o : Outcome) (q : R.Outcome) → o ≡ outcomeOf q → Marked (q .verdict) → (ds : List Deed) → ifAccepted o ds ≡ ifOk (q .verdict) ds
-unfolding Marked
+unfolding Numbered
 accepts o q e m ds = rw e (go (q .verdict) m)
   where
     go : (v : Verdict) → Marked v → ifAccepted (outcomeOf (record { verdict = v; state = q .state })) ds ≡ ifOk v ds

@@ -13,6 +13,7 @@ use Rattle.rules.specs.Answers.{Verdict, accepted, fault, ok, passes, refused}
 use Rattle.rules.specs.Apply.{applyConf, noConfState, toConfState}
 use Rattle.rules.specs.Restore.{Step, attempt, restoreSteps, run}
 use Rattle.rules.proofs.Demand3.{restore-short}
+use Rattle.rules.proofs.Numbers.{Numbered}
 use Rattle.rules.proofs.Sets.{and-left}
 use Rattle.tracker.specs.Apply.{applyOf, numberOf, outcomeOf}
 use Rattle.tracker.specs.Bridge.{confOf, confStateOf, listsOf, logOf, stateOf, trackerOf}
@@ -126,7 +127,7 @@ module _ (t : Tracker) where
         go false b w h = rw w one
 
     pub restore-untouched : restoreOf t cs n .number ≤ 2 → StateUntouched t (restoreOf t cs n)
-    unfolding Late
+    unfolding Numbered
     restore-untouched = restore-ways (λ r. r .number ≤ 2 → StateUntouched t r) (λ l h. refl) (λ l h. refl) (λ w h. few (o .verdict) (run-late w h))
       where
         few : (v : Verdict) → Late v → outcomeOf (record { verdict = v; state = o .state }) .number ≤ 2 → StateUntouched t (outcomeOf (record { verdict = v; state = o .state }))

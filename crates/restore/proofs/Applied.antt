@@ -12,6 +12,7 @@ use Rattle.rules.proofs.Applied.{Applied, any-applied}
 use Rattle.rules.proofs.Check.{then-right}
 use Rattle.rules.proofs.Demand3.{read-short}
 use Rattle.rules.proofs.Order.{stepShort}
+use Rattle.rules.proofs.Numbers.{Numbered, NumberedAnswer, readable-numbered, refuse-numbered, then-numbered}
 use Rattle.tracker.specs.Apply.{applyOf, outcomeOf}
 use Rattle.tracker.specs.Bridge.{stateOf}
 use Rattle.tracker.specs.Form.{trackerWellFormed}
@@ -20,7 +21,7 @@ use Rattle.tracker.specs.declared.Tracker.{Tracker}
 use Rattle.tracker.proofs.Bridge.{conf-back, conf-well, log-back, log-well, tracker-formed, tracker-well, unit-tracker}
 use Rattle.changer.specs.Calls.{answerOf, enterAnswer, leaveAnswer, simpleAnswer}
 use Rattle.restore.specs.Restore.{appliedTo}
-use Rattle.restore.proofs.Marked.{Answered, Marked, asked-answered, marked-readable, marked-refuse, marked-then}
+use Rattle.restore.proofs.Marked.{Answered, Marked, NotZero, asked-answered}
 
 -- an accepted answer is applied to the state, and a refusal's number is not 0
 unfoldable pub Fits : State → ℕ → Answer → Type 0
@@ -32,13 +33,13 @@ Fits s next (refused n x) = eqb n 0 ≡ false
 module _ (s : State) (next : ℕ) where
   -- what comes after tests fits where it does once they are passed
   given-fits : (v : Verdict) (a : Answer) → Marked v → (v ≡ ok → Fits s next a) → Fits s next (v ⇒ a)
-  unfolding Fits Marked
+  unfolding Fits Numbered
   given-fits ok a h k = k refl
   given-fits (fault n x) a h k = h
 
   module _ (f : formed s ≡ true) where
     pub asked-fits : (p : Step) → stepShort p → Fits s next (ask s p)
-    unfolding Fits Answered
+    unfolding Fits NumberedAnswer
     asked-fits p h = go (ask s p) refl (asked-answered s p)
       where
         go : (a : Answer) → ask s p ≡ a → Answered a → Fits s next a
@@ -49,18 +50,21 @@ module _ (s : State) (next : ℕ) where
     ill = refuse (not (formed s)) 1 0
 
     marked-ill : Marked ill
-    marked-ill = marked-refuse (not (formed s)) 1 0 refl
+    marked-ill = refuse-numbered NotZero (not (formed s)) 1 0 refl
+
+    marked-before : (xs ks : List ℕ) → Marked (ill ▸ readable xs ks)
+    marked-before xs ks = then-numbered NotZero ill (readable xs ks) marked-ill (readable-numbered NotZero refl refl xs ks)
 
     pub simple-fits : (xs ks : List ℕ) → Fits s next (simple s xs ks)
     unfolding simple ask
     simple-fits xs ks =
-        given-fits (ill ▸ readable xs ks) (simpleOf s (listOf xs ks)) (marked-then ill (readable xs ks) marked-ill (marked-readable xs ks))
+        given-fits (ill ▸ readable xs ks) (simpleOf s (listOf xs ks)) (marked-before xs ks)
         (λ e. asked-fits (simpleStep (listOf xs ks)) (read-short xs ks (then-right ill (readable xs ks) e)))
 
     pub enter-fits : (auto : Bool) (xs ks : List ℕ) → Fits s next (enterJoint s auto xs ks)
     unfolding enterJoint ask
     enter-fits auto xs ks =
-        given-fits (ill ▸ readable xs ks) (enterOf s auto (listOf xs ks)) (marked-then ill (readable xs ks) marked-ill (marked-readable xs ks))
+        given-fits (ill ▸ readable xs ks) (enterOf s auto (listOf xs ks)) (marked-before xs ks)
         (λ e. asked-fits (enterStep auto (listOf xs ks)) (read-short xs ks (then-right ill (readable xs ks) e)))
 
     pub leave-fits : Fits s next (leaveJoint s)
@@ -74,7 +78,7 @@ module _ (s : State) (next : ℕ) where
     applied-formed (refused n x) h = f
 
   pub applied-marked : (a : Answer) → Fits s next a → Marked (applyAnswer s next a .verdict)
-  unfolding Fits Marked
+  unfolding Fits Numbered
   applied-marked (accepted c log) h = rw (h .done) tt
   applied-marked (refused n x) h = h
 

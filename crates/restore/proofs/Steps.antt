@@ -17,6 +17,7 @@ use Rattle.rules.proofs.Singles.{run-append}
 use Rattle.tracker.specs.Apply.{idOf, numberOf, outcomeOf}
 use Rattle.tracker.specs.Bridge.{stateOf, trackerOf}
 use Rattle.tracker.specs.Form.{trackerWellFormed}
+use Rattle.rules.proofs.Numbers.{Numbered}
 use Rattle.tracker.specs.declared.Outcome.{Outcome}
 use Rattle.tracker.specs.declared.Tracker.{Tracker}
 use Rattle.tracker.proofs.Bridge.{state-back, tracker-formed, tracker-well}
@@ -34,7 +35,7 @@ pub record Left (o : rules.Outcome) : Type 0 where
 
 module _ (next : ℕ) where
   pub run-left : (ps : List Step) → allShort ps → (s : State) → formed s ≡ true → Left (run next s ps)
-  unfolding run Marked
+  unfolding run Numbered
   run-left [] h s f = record { good = f; marked = tt }
   run-left (p ∷ ps) h s f =
       go (attempt next s p .verdict) (attempt next s p .state)
@@ -85,7 +86,7 @@ module _ (t : Tracker) (w : trackerWellFormed t ≡ true) (next : ℕ) where
       steps-formed = rw e (tracker-well (run next (stateOf t) ps .state) (left .good))
 
       pub steps-accept : o .number ≡ 0 → o .id ≡ 0
-      unfolding Marked
+      unfolding Numbered
       steps-accept h = rw e (go (run next (stateOf t) ps .verdict) (left .marked) (ap (λ (o : Outcome). o .number) (sym e) ∙ h))
         where
           go : (v : Verdict) → Marked v → numberOf v ≡ 0 → idOf v ≡ 0
@@ -93,7 +94,7 @@ module _ (t : Tracker) (w : trackerWellFormed t ≡ true) (next : ℕ) where
           go (fault n x) m z = absurd (eqb-false n 0 m z)
 
       pub steps-on : o .number ≡ 0 → (qs : List Step) → stepsOf (o .tracker) next qs ≡ stepsOf t next (ps ++ qs)
-      unfolding Marked
+      unfolding Numbered
       steps-on h qs =
           rw e (go (run next (stateOf t) ps .verdict) (run next (stateOf t) ps .state) left (ap (λ (o : Outcome). o .number) (sym e) ∙ h) ∙ ap outcomeOf (sym (both qs)))
         where

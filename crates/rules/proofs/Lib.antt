@@ -12,6 +12,7 @@ pub mod Applied
 pub mod Demand3
 pub mod Records
 pub mod Table
+pub mod Numbers
 pub mod Thirteen
 pub mod Accept
 pub mod Singles
