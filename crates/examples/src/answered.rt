@@ -1,0 +1,100 @@
+// What is answered, in the words of document 01's examples.
+use crate::say;
+use crate::state::is_fresh;
+use crate::state::say_conf;
+use crate::state::say_whole;
+use changer::Answer;
+use progress::Progress;
+use tracker::ChangeLog;
+use tracker::MapChange;
+use tracker::MapChangeType;
+use tracker::Outcome;
+use tracker::Tracker;
+use tracker::Verdict;
+use tracker::numbers;
+
+// What a call answers: the configuration and the log, or a refusal.
+pub fn say_answer(a: Answer) {
+    if a.number != numbers::ACCEPTED {
+        say_refused(a.number, a.id);
+        return;
+    }
+    say_conf(a.conf);
+    say_log(a.log);
+}
+
+fn say_refused(number: u64, id: u64) {
+    say::words(b"refused ");
+    say::number(number);
+    say::words(b" id ");
+    say::number(id);
+}
+
+// The log's entries, `log +4 -3`; the empty one by name.
+fn say_log(log: ChangeLog) {
+    if log.count == 0 {
+        say::words(b", empty log");
+        return;
+    }
+    say::words(b", log");
+    say_entries(log);
+}
+
+fn say_entries(log: ChangeLog) {
+    let n = log.count;
+    let mut i = 0;
+    while i < 256 {
+        if n <= i {
+            return;
+        }
+        let e = log.entries[i];
+        say_entry(e);
+        i += 1;
+    }
+}
+
+// ` +5`, or ` -5`.
+fn say_entry(e: MapChange) {
+    let kind = e.kind;
+    match kind {
+        MapChangeType::Add => say::words(b" +"),
+        MapChangeType::Remove => say::words(b" -"),
+    }
+    say::number(e.id);
+}
+
+// What `restore` answers: the state that it leaves, after the refusal if there is one.
+pub fn say_outcome(o: Outcome) {
+    if o.number == numbers::ACCEPTED {
+        say_whole(o.tracker);
+        return;
+    }
+    say_refused(o.number, o.id);
+    say_left(o.tracker);
+}
+
+fn say_left(t: Tracker) {
+    if is_fresh(t) {
+        say::words(b", still fresh");
+        return;
+    }
+    say::words(b", left with ");
+    say_whole(t);
+}
+
+// What the check answers.
+pub fn say_check(v: Verdict) {
+    if v.number == numbers::ACCEPTED {
+        say::words(b"the check passes");
+        return;
+    }
+    say_refused(v.number, v.id);
+}
+
+// What tells a record in use from a fresh one.
+pub fn say_record(r: Progress) {
+    say::words(b"matched ");
+    say::number(r.matched);
+    say::words(b", next_idx ");
+    say::number(r.next_idx);
+}

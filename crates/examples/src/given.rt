@@ -1,0 +1,102 @@
+// What the examples begin from: states, the kinds of a change, and the lists that are restored.
+use idset::IdSet;
+use restore::restore;
+use tracker::ConfState;
+use tracker::IdList;
+use tracker::Tracker;
+
+// AddNode, RemoveNode, AddLearnerNode.
+pub const ADD: u8 = 0;
+
+pub const REMOVE: u8 = 1;
+
+pub const LEARNER: u8 = 2;
+
+// The `max_inflight` of every state here.
+pub const MAX_INFLIGHT: u64 = 256;
+
+// The fresh state.
+pub fn fresh() -> Tracker {
+    Tracker::new(MAX_INFLIGHT)
+}
+
+// A group with these voters and learners, each with a record whose `next_idx` is 10.
+pub fn group(voters: IdList, learners: IdList) -> Tracker {
+    let o = restore(fresh(), conf_state(voters, learners, none(), none()), 10);
+    o.tracker
+}
+
+// A group of voters alone.
+pub fn voters(ids: &[u64]) -> Tracker {
+    group(list(ids), none())
+}
+
+// Incoming (1 2), outgoing (1 2), staged (2), tracked 1 and 2: built by hand, since no calls from fresh lead there.
+pub fn stuck() -> Tracker {
+    let mut t = voters(&[1, 2]);
+    let mut conf = t.conf;
+    let both = conf.incoming;
+    let two = IdSet::new().insert(2);
+    let staged = two.set;
+    conf.outgoing = both;
+    conf.learners_next = staged;
+    t.conf = conf;
+    t
+}
+
+// The flag is false.
+pub fn conf_state(
+    voters: IdList,
+    learners: IdList,
+    voters_outgoing: IdList,
+    learners_next: IdList,
+) -> ConfState {
+    ConfState {
+        voters,
+        learners,
+        voters_outgoing,
+        learners_next,
+        auto_leave: false,
+    }
+}
+
+// The empty list.
+pub fn none() -> IdList {
+    IdList {
+        ids: [0u64; 64],
+        len: 0,
+    }
+}
+
+// The list of these ids, at most 64 of them.
+pub fn list(ids: &[u64]) -> IdList {
+    let mut places = [0u64; 64];
+    let mut n = 0;
+    while n < ids.len() {
+        if 64 <= n {
+            return IdList {
+                ids: places,
+                len: n,
+            };
+        }
+        places[n] = ids[n];
+        n += 1;
+    }
+    IdList {
+        ids: places,
+        len: n,
+    }
+}
+
+// The list 1 to 63.
+pub fn one_to_63() -> IdList {
+    let mut ids = [0u64; 64];
+    let mut n = 0;
+    let mut id = 1;
+    while n < 63 {
+        ids[n] = id;
+        n += 1;
+        id += 1;
+    }
+    IdList { ids, len: n }
+}

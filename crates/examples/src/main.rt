@@ -1,0 +1,160 @@
+// Runs the checked examples of document 01, 1 to 15, on the proved code. Each line has the example's number, what is asked, and what the code
+// answered, in the paper's words. crates/examples/stdout is written from the paper.
+use crate::given::ADD;
+use crate::given::LEARNER;
+use crate::given::REMOVE;
+use crate::given::conf_state;
+use crate::given::fresh;
+use crate::given::group;
+use crate::given::list;
+use crate::given::none;
+use crate::given::voters;
+
+mod given; // what the examples begin from
+mod ask; // a call made, and its line printed
+mod asked; // the text of what is asked
+mod answered; // the text of what is answered
+mod state; // the text of a state
+mod say; // pieces of text, written
+
+// Fresh, simple add 1.
+fn example_1() {
+    ask::simple(b"1 ", fresh(), &[1], &[ADD]);
+}
+
+// Fresh, simple with empty list, or add 0.
+fn example_2() {
+    ask::simple(b"2 ", fresh(), &[], &[]);
+    ask::simple(b"2 ", fresh(), &[0], &[ADD]);
+}
+
+// Fresh, simple add 1, add 2.
+fn example_3() {
+    ask::simple(b"3 ", fresh(), &[1, 2], &[ADD, ADD]);
+}
+
+// Voters (1), simple add 2, remove 2: counting changes would refuse it.
+fn example_4() {
+    ask::simple(b"4 ", voters(&[1]), &[2, 2], &[ADD, REMOVE]);
+}
+
+// Voters (1 2 3), simple remove 3, add 4.
+fn example_5() {
+    ask::simple(b"5 ", voters(&[1, 2, 3]), &[3, 4], &[REMOVE, ADD]);
+}
+
+// Voters (1), simple remove 1.
+fn example_6() {
+    ask::simple(b"6 ", voters(&[1]), &[1], &[REMOVE]);
+}
+
+// Fresh, enter add 1.
+fn example_7() {
+    ask::enter(b"7 ", fresh(), &[1], &[ADD]);
+}
+
+// Voters (1 2 3), enter learner 3, add 4; leave.
+fn example_8() {
+    let t = ask::enter(b"8 ", voters(&[1, 2, 3]), &[3, 4], &[LEARNER, ADD]);
+    ask::leave(b"8 ", t);
+}
+
+// Voters (1 2 3), enter remove 3; leave.
+fn example_9() {
+    let t = ask::enter(b"9 ", voters(&[1, 2, 3]), &[3], &[REMOVE]);
+    ask::leave(b"9 ", t);
+}
+
+// Voters (1), learners (2), simple remove 2, learner 2. The record of 2, at place 1, was in use; then it is a fresh one.
+fn example_10() {
+    let mut before = group(list(&[1]), list(&[2]));
+    before.records[1].matched = 9;
+    let after = ask::simple(b"10 ", before, &[2, 2], &[REMOVE, LEARNER]);
+    ask::record(b"10 record of 2 before", before, 2);
+    ask::record(b"10 record of 2 after", after, 2);
+}
+
+// Fresh, restore voters (1 2 3), learners (5), outgoing (1 2 4 6), staged (4); its last step alone, since `restore` gives no log; leave.
+fn example_11() {
+    let cs = conf_state(
+        list(&[1, 2, 3]),
+        list(&[5]),
+        list(&[1, 2, 4, 6]),
+        list(&[4]),
+    );
+    let t = ask::restore(b"11 ", cs);
+    ask::enter(
+        b"11 its last step, ",
+        voters(&[1, 2, 4, 6]),
+        &[1, 2, 4, 6, 1, 2, 3, 5, 4],
+        &[
+            REMOVE,
+            REMOVE,
+            REMOVE,
+            REMOVE,
+            ADD,
+            ADD,
+            ADD,
+            LEARNER,
+            LEARNER,
+        ],
+    );
+    ask::leave(b"11 ", t);
+}
+
+// Fresh, restore voters (1 2), learners (1 2).
+fn example_12() {
+    ask::restore(
+        b"12 ",
+        conf_state(list(&[1, 2]), list(&[1, 2]), none(), none()),
+    );
+}
+
+// Fresh, restore voters (0 1), and (1 0).
+fn example_13() {
+    ask::restore(b"13 ", conf_state(list(&[0, 1]), none(), none(), none()));
+    ask::restore(b"13 ", conf_state(list(&[1, 0]), none(), none(), none()));
+}
+
+// Incoming (1 2), outgoing (1 2), staged (2), tracked 1 and 2: the check, and leave.
+fn example_14() {
+    let t = given::stuck();
+    ask::check(b"14 ", t);
+    ask::leave(b"14 ", t);
+}
+
+// Voters 1 to 63, learner 64: room freed in the list is used after it was freed, and not before.
+fn example_15_room() {
+    let full = group(given::one_to_63(), list(&[64]));
+    ask::simple(b"15 ", full, &[64, 65], &[REMOVE, LEARNER]);
+    ask::simple(b"15 ", full, &[65, 64], &[LEARNER, REMOVE]);
+}
+
+// A list of 256 is read, up to its last change; one of 257 is not. The others are add 0, which is skipped.
+fn example_15_length() {
+    let mut ids = [0u64; 257];
+    let mut kinds = [ADD; 257];
+    ids[256] = 2;
+    kinds[256] = LEARNER;
+    ask::simple(b"15 ", voters(&[1]), &ids[1..], &kinds[1..]);
+    ask::simple(b"15 ", voters(&[1]), &ids, &kinds);
+}
+
+fn main() {
+    example_1();
+    example_2();
+    example_3();
+    example_4();
+    example_5();
+    example_6();
+    example_7();
+    example_8();
+    example_9();
+    example_10();
+    example_11();
+    example_12();
+    example_13();
+    example_14();
+    example_15_room();
+    example_15_length();
+}
