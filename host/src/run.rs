@@ -19,7 +19,8 @@ const HELP: &str = "host: the proved code beside the Rust that it was carried ov
                   --model       compares the model of the paper in the place of the static libraries
                   --only WORDS  only the groups whose name has these words
   host vectors [FOLDER]
-                  writes a fixed sample of the Rust's answers (VECTORS.md); usual folder: vectors
+                  writes a fixed sample of the Rust's answers, the files stdin and stdout of the program
+                  vectors (VECTORS.md); usual folder: crates/vectors
   host bench      times both on the same calls and scripts
   host stack      measures the peak stack of each entry
   host --help     prints this
@@ -37,7 +38,7 @@ pub fn command(words: Vec<String>) -> ExitCode {
             Some(options) => compare(&options),
             None => usage(),
         },
-        ["vectors"] => vectors::write("vectors"),
+        ["vectors"] => vectors::write("crates/vectors"),
         ["vectors", folder] if !folder.starts_with('-') => vectors::write(folder),
         ["bench"] => bench::run(),
         ["stack"] => stack::run(),

@@ -1,88 +1,79 @@
-//! A fixed sample of the Rust's answers, in files that a program without Rust replays. VECTORS.md has the format.
+//! A fixed sample of the Rust's answers, in a file that the program `vectors` of the repository replays without Rust. VECTORS.md has the
+//! format.
 //!
 //! The sample is taken from the groups of the comparison: of each group a case or two for each call and each number that it met.
 
 mod format;
+mod pieces;
 mod sample;
 
 use crate::compare::Comparison;
 use crate::model::Model;
 use crate::oracle::rust_listing;
-use crate::script::{LONGEST_SCRIPT, NO_ROOM};
+use crate::script::{LONGEST_SCRIPT, NO_ROOM, TOO_LONG};
 use crate::subject::{Linked, Subject};
-use crate::words::{Block, Reply, Request, REPLY_BYTES, REQUEST_BYTES};
-use format::{Answered, Case, Given};
+use crate::words::{Block, Request, REPLY_BYTES, REQUEST_BYTES};
+use format::{Case, Entry};
 use std::fs;
 use std::path::Path;
 use std::process::ExitCode;
 
-/// The most that a file has, and that a script or an output of a case has: one buffer of a program.
-const LARGEST: usize = 65_536;
+/// The most bytes that a case lends for a listing.
+const LARGEST_ROOM: usize = 65_536;
 
-/// A case that takes more bytes than this is left out.
-const LARGEST_CASE: usize = 8_192;
+/// Bytes lent beyond an answer, which have to stay as they are.
+const TAIL: usize = 40;
 
-/// Writes the files, reads them back and runs what this program is linked with on every case.
+/// What the program has in its lent bytes before a call.
+const STALE: u8 = 0xa5;
+
+/// Writes the program's files stdin and stdout, reads the cases back and runs what this program is linked with on every one.
 pub fn write(folder: &str) -> ExitCode {
     let taken = sample::take();
-    let short = |case: &Case| case.written().len() <= LARGEST_CASE;
-    let calls = taken.calls.iter().map(|request| call_case(request)).chain(entry_cases());
-    let calls: Vec<Case> = calls.filter(short).collect();
-    let scripts: Vec<Case> = taken.scripts.iter().flat_map(|script| script_cases(script)).filter(short).collect();
-    let by_rust = calls.iter().chain(&scripts).filter(|case| case.by_rust).count();
-    let files = [files("calls", &calls), files("scripts", &scripts)].concat();
-    if let Err(error) = store(folder, &files) {
+    let calls = taken.calls.iter().enumerate().map(|(place, request)| call_case(request, place % 2 * TAIL)).chain(entry_cases());
+    let scripts = taken.scripts.iter().flat_map(|script| script_cases(script)).chain(long_scripts());
+    let cases: Vec<Case> = calls.chain(scripts).collect();
+    let (stdin, stdout) = (format::file(&cases), printed(&cases, 0));
+    if let Err(error) = store(folder, &stdin, &stdout) {
         println!("host: {folder}: {error}");
         return ExitCode::from(2);
     }
-    println!("{} calls and {} scripts, {by_rust} of them answered by the Rust:", calls.len(), scripts.len());
-    for (name, bytes) in &files {
-        println!("  {name}: {} bytes", bytes.len());
-    }
-    check(&files)
+    println!("{folder}/stdin: {} bytes", stdin.len());
+    check(&stdin)
 }
 
-fn store(folder: &str, files: &[(String, Vec<u8>)]) -> std::io::Result<()> {
+fn store(folder: &str, stdin: &[u8], stdout: &str) -> std::io::Result<()> {
     fs::create_dir_all(folder)?;
-    for (name, bytes) in files {
-        fs::write(Path::new(folder).join(name), bytes)?;
-    }
-    Ok(())
+    fs::write(Path::new(folder).join("stdin"), stdin)?;
+    fs::write(Path::new(folder).join("stdout"), stdout)
 }
 
-/// As many files as are needed: a case is never cut.
-fn files(name: &str, cases: &[Case]) -> Vec<(String, Vec<u8>)> {
-    let mut files: Vec<Vec<Vec<u8>>> = vec![];
-    let mut room = 0;
-    for case in cases.iter().map(Case::written) {
-        if case.len() > room {
-            files.push(vec![]);
-            room = LARGEST - format::HEADER;
-        }
-        room -= case.len();
-        files.last_mut().expect("just pushed").push(case);
-    }
-    (1..).zip(&files).map(|(number, cases)| (format!("{name}-{number}.vec"), format::file(cases))).collect()
+/// What the program has to print: of no case a difference, and the counts.
+fn printed(cases: &[Case], failed: usize) -> String {
+    let count = |counts: fn(&Case) -> bool| cases.iter().filter(|case| counts(case)).count();
+    let (calls, by_rust) = (count(|case| case.entry == Entry::Call), count(|case| case.by_rust));
+    let (scripts, passed) = (cases.len() - calls, cases.len() - failed);
+    format!("{calls} calls, {scripts} scripts; {by_rust} answered by the Rust\n{passed} passed, {failed} failed\n")
 }
 
 // ** Cases
 
 /// A call, and the reply that is right. Where the Rust has an answer it has agreed: up to the order of a hash set, which the paper fixes.
-fn call_case(request: &Request) -> Case {
+fn call_case(request: &Request, tail: usize) -> Case {
     let mut comparison = Comparison::new(&Model::PAPER);
     assert!(comparison.call_difference(request).is_none(), "the Rust and the paper differ: run `host compare --model`");
     let (paper, rust) = comparison.expected(request);
-    let by_rust = rust.is_some();
-    let given = Given::Call { request: Box::new(*request), request_len: REQUEST_BYTES, reply_len: REPLY_BYTES };
-    Case { by_rust, given, answered: Answered::Reply(Box::new(*paper)) }
+    let lent = [paper.bytes(), &vec![STALE; tail]].concat();
+    Case { entry: Entry::Call, by_rust: rust.is_some(), given: request.bytes().to_vec(), lent, value: 0 }
 }
 
 /// What the entry returns with 1 to 4.
 fn entry_cases() -> Vec<Case> {
-    let refused = |call, auto_leave, request_len, reply_len, value| {
+    let refused = |call, auto_leave, request_len: usize, reply_len, value| {
         let mut request = Request::new(call);
         request.auto_leave = auto_leave;
-        Case { by_rust: false, given: Given::Call { request, request_len, reply_len }, answered: Answered::Value(value) }
+        let given = request.bytes()[..request_len].to_vec();
+        Case { entry: Entry::Call, by_rust: false, given, lent: vec![STALE; reply_len], value }
     };
     vec![
         refused(0, 0, REQUEST_BYTES - 1, REPLY_BYTES, 1),
@@ -94,68 +85,50 @@ fn entry_cases() -> Vec<Case> {
     ]
 }
 
-/// A script with an output that is just long enough, and with one that is a byte short; where the listing does not fit into a buffer, with
-/// the largest.
+/// A script with an output that is just long enough, with a longer one, and with one that is a byte short; where the listing is longer than
+/// any output here, with the longest.
 fn script_cases(script: &[u8]) -> Vec<Case> {
-    assert!(script.len() <= LONGEST_SCRIPT, "a longer one has no place in a buffer");
     let text = rust_listing(script);
     assert!(text == Model::PAPER.listing(script), "the Rust and the paper differ: run `host compare --model`");
-    let case = |room, answered| {
-        let given = Given::Script { script: script.to_vec(), room };
-        Case { by_rust: true, given, answered }
-    };
-    if text.len() > LARGEST {
-        return vec![case(LARGEST, Answered::Value(NO_ROOM))];
+    let refused = |room| script_case(script, vec![STALE; room], NO_ROOM);
+    if text.len() + TAIL > LARGEST_ROOM {
+        return vec![refused(LARGEST_ROOM.min(text.len() - 1))];
     }
-    let short = (!text.is_empty()).then(|| case(text.len() - 1, Answered::Value(NO_ROOM)));
-    [case(text.len(), Answered::Listing(text))].into_iter().chain(short).collect()
+    let fits = |tail| script_case(script, [&text[..], &vec![STALE; tail]].concat(), text.len() as u64);
+    let short = (!text.is_empty()).then(|| refused(text.len() - 1));
+    [fits(0), fits(TAIL)].into_iter().chain(short).collect()
+}
+
+/// A listing is the Rust's, a refusal the paper's.
+fn script_case(script: &[u8], lent: Vec<u8>, value: u64) -> Case {
+    let by_rust = ![TOO_LONG, NO_ROOM].contains(&value);
+    Case { entry: Entry::Script, by_rust, given: script.to_vec(), lent, value }
+}
+
+/// A byte more than a script may have.
+fn long_scripts() -> Vec<Case> {
+    let script = vec![0; LONGEST_SCRIPT + 1];
+    [0, TAIL].map(|room| script_case(&script, vec![STALE; room], TOO_LONG)).into()
 }
 
 // ** Reading back
 
-/// Replays files as a program without Rust would, on what this program is linked with.
-fn check(files: &[(String, Vec<u8>)]) -> ExitCode {
-    let (mut passed, mut failed) = (0, 0);
-    for (name, bytes) in files {
-        for (number, case) in format::cases(bytes).iter().enumerate() {
-            if replays(case) {
-                passed += 1;
-            } else {
-                failed += 1;
-                println!("{name}: case {number} differs");
-            }
-        }
+/// Replays the file as the program without Rust does, on what this program is linked with.
+fn check(file: &[u8]) -> ExitCode {
+    let cases = format::cases(file);
+    let failed: Vec<usize> = (1..).zip(&cases).filter(|(_, case)| !replays(case)).map(|(number, _)| number).collect();
+    for number in &failed {
+        println!("case {number} differs");
     }
-    println!("{passed} passed, {failed} failed");
-    ExitCode::from(u8::from(failed > 0))
+    print!("{}", printed(&cases, failed.len()));
+    ExitCode::from(u8::from(!failed.is_empty()))
 }
 
 fn replays(case: &Case) -> bool {
-    const STALE: u8 = 0xa5;
-    match &case.given {
-        Given::Call { request, request_len, reply_len } => {
-            let mut reply = vec![STALE; *reply_len];
-            let value = Linked.call(&request.bytes()[..*request_len], &mut reply);
-            match &case.answered {
-                Answered::Reply(expected) => value == 0 && reply == expected.bytes(),
-                other => other.value() == value && reply.iter().all(|&byte| byte == STALE),
-            }
-        }
-        Given::Script { script, room } => {
-            let mut out = vec![STALE; *room];
-            let value = Linked.replay(script, &mut out);
-            match &case.answered {
-                Answered::Listing(text) => value == text.len() as u64 && out[..text.len()] == text[..],
-                Answered::Sum { length, sum } => value == *length && format::sum(&out[..*length as usize]) == *sum,
-                other => other.value() == value && out.iter().all(|&byte| byte == STALE),
-            }
-        }
-    }
-}
-
-/// The reply that a call's patch is written over: the state given back, nothing else.
-fn giving_back(request: &Request) -> Box<Reply> {
-    let mut reply = Box::new(Reply::zero());
-    reply.giving_back(&request.state);
-    reply
+    let mut lent = vec![STALE; case.lent.len()];
+    let value = match case.entry {
+        Entry::Call => Linked.call(&case.given, &mut lent),
+        Entry::Script => Linked.replay(&case.given, &mut lent),
+    };
+    value == case.value && lent == case.lent
 }

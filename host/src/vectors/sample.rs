@@ -62,12 +62,14 @@ struct Chosen {
     /// by call and number: how many were seen, and those that were kept
     calls: BTreeMap<(u64, u64), (usize, Vec<Box<Request>>)>,
     seen_scripts: usize,
+    /// the last one, which is handed on with several outputs
+    seen_last: Vec<u8>,
     scripts: Vec<Vec<u8>>,
 }
 
 impl Chosen {
     fn new(name: &str) -> Chosen {
-        Chosen { random: Random::new(2, name), calls: BTreeMap::new(), seen_scripts: 0, scripts: vec![] }
+        Chosen { random: Random::new(2, name), calls: BTreeMap::new(), seen_scripts: 0, seen_last: vec![], scripts: vec![] }
     }
 }
 
@@ -100,9 +102,10 @@ impl Subject for Recorder {
     }
 
     fn replay(&self, script: &[u8], out: &mut [u8]) -> u64 {
-        if script.len() <= LONGEST_SCRIPT {
-            let Chosen { random, scripts, seen_scripts, .. } = &mut *self.chosen.borrow_mut();
+        let Chosen { random, scripts, seen_scripts, seen_last, .. } = &mut *self.chosen.borrow_mut();
+        if script.len() <= LONGEST_SCRIPT && (*seen_scripts == 0 || script != seen_last) {
             *seen_scripts += 1;
+            *seen_last = script.to_vec();
             keep(scripts, *seen_scripts, SCRIPTS_OF_A_GROUP, random, || script.to_vec());
         }
         Model::PAPER.replay(script, out)
