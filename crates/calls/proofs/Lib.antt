@@ -1,8 +1,13 @@
+pub mod Typed
+pub mod TypedRows
 pub mod WriteWords
 pub mod WriteLengths
-pub mod Round
-pub mod WriteSizes
 pub mod ReadNumbers
 pub mod ReadFilled
 pub mod ReadWithin
 pub mod WriteCalls
+pub mod RoundWords
+pub mod RoundSmall
+pub mod RoundSets
+pub mod RoundStates
+pub mod Round

@@ -21,7 +21,8 @@ use Rattle.calls.specs.Reply.{allBytes}
 use Rattle.calls.specs.Call.{reply, noLog, noLists, fromVerdict, fromAnswer, fromOutcome, fromWritten, idsIn, kindsIn, askIn, replyTo, replyWords, callAnswer, callLeaves}
 use Rattle.calls.specs.declared.Reply.{Reply}
 use Rattle.calls.specs.declared.read.ChangeList.{ChangeList}
-use Rattle.calls.proofs.WriteLengths.{SizedReply, reply-length}
+use Rattle.calls.proofs.Typed.{TypedReply}
+use Rattle.calls.proofs.WriteLengths.{reply-length}
 
 -- ** The LIST
 
@@ -156,8 +157,8 @@ module _ (s out : List ℕ) where
         unfolding callAnswer
         accepted h = rw (eq-eqb (length s) 20216 e, le-ltb (length out) 13952 room, le-ltb 7 (word s 0) known, h)
 
-        pub call-done : holds s ≡ true → length out ≤ last → (r : Reply) → SizedReply r → r ≡ replyTo s → {new : List ℕ} {n : ℕ} → Put out 0 (allBytes (replyWords r)) new n → (0 ≡ callAnswer s (length out)) × (new ≡ callLeaves s out)
+        pub call-done : holds s ≡ true → length out ≤ last → (r : Reply) → TypedReply r → r ≡ replyTo s → {new : List ℕ} {n : ℕ} → Put out 0 (allBytes (replyWords r)) new n → (0 ≡ callAnswer s (length out)) × (new ≡ callLeaves s out)
         unfolding callLeaves
         call-done h m r z q f =
-            let long : length (allBytes (replyWords r)) ≡ 13952 = reply-length r z in
+            let long : length (allBytes (replyWords r)) ≡ 13952 = reply-length z in
             (sym (accepted h), rw (accepted h) (put-whole m f (omega arith) .0 ∙ (ap (λ (n : ℕ). allBytes (replyWords r) ++ drop n out) long ∙ ap (λ (x : Reply). allBytes (replyWords x) ++ drop 13952 out) q)))

@@ -1,10 +1,10 @@
 -- The layout of a request: docs/EMBEDDING.md. Little-endian words of 8 bytes at fixed places; what stands there is read into the structs.
 -- Assumes nothing.
 use Prim.Native.Nat.{ℕ, zero, suc, _+_, _*_, _%_}
-use mathlib.Core.Bool.{Bool, true, false, _&&_, _||_, not, cond}
+use mathlib.Core.Bool.{Bool, true, _&&_, cond}
 use mathlib.Core.List.{List, [], _∷_}
-use lib.Dec.{eqb, leb, ltb}
-use lib.ListN.{length, getD}
+use lib.Dec.{eqb, leb}
+use lib.ListN.{getD}
 use Rattle.progress.specs.declared.Progress.{Progress}
 use Rattle.progress.specs.declared.ProgressState.{ProgressState}
 use Rattle.progress.specs.declared.ProgressState.the-variants.{Probe, Replicate, Snapshot}

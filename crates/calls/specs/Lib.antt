@@ -1,3 +1,4 @@
 pub mod Layout
 pub mod Reply
 pub mod Call
+pub mod Examples

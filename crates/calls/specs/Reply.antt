@@ -1,6 +1,6 @@
 -- The layout of a reply: docs/EMBEDDING.md. What the structs hold, as bytes. Assumes nothing.
 use Prim.Native.Nat.{ℕ, zero, suc, _+_, _/_, _%_}
-use mathlib.Core.Bool.{Bool, true, false, cond}
+use mathlib.Core.Bool.{Bool, cond}
 use mathlib.Core.List.{List, [], _∷_, _++_}
 use Rattle.progress.specs.declared.Progress.{Progress}
 use Rattle.progress.specs.declared.ProgressState.{ProgressState}

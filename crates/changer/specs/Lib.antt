@@ -1,3 +1,4 @@
 pub mod Calls
 pub mod Before
 pub mod Stages
+pub mod Examples

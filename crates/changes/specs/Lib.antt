@@ -1,3 +1,4 @@
 pub mod Pending
 pub mod Table
 pub mod Change
+pub mod Examples

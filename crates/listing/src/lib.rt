@@ -5,6 +5,7 @@ use changer::leave_joint;
 use changer::simple;
 use restore::apply_answer;
 use tracker::Tracker;
+use tracker::numbers;
 ghost use mathlib.Core.Path.{_≡_};
 ghost use Prim.Native.Nat.{_+_, _≤_, min};
 ghost use lib.ListN.{length, getD};
@@ -32,12 +33,12 @@ pub extern "C" fn dimecandle_replay(script: &[u8], out: &mut [u8]) -> u64
     ensures { λ r. ⌜ (r ≡ replayAnswer (now (script .entry)) (length (now (out .entry)))) × (now (out .exit) ≡ replayLeaves (now (script .entry)) (now (out .entry))) ⌝ }
 {
     if 65536 < script.len() {
-        return 4294967315;
+        return numbers::SCRIPT_TOO_LONG;
     }
     let mut none = [0u8; 1];
     let n = put_listing(script, &mut none);
     if out.len() < n {
-        return 4294967316;
+        return numbers::LISTING_TOO_LONG;
     }
     let m = put_listing(script, out);
     m as u64

@@ -1,2 +1,3 @@
 pub mod Restore
 pub mod Steps
+pub mod Examples

@@ -37,6 +37,7 @@ pub const NO_VOTER_LEFT: u64 = 17;
 
 pub const TWO_VOTERS_CHANGED: u64 = 18;
 
-pub const SCRIPT_TOO_LONG: u64 = 19;
+// "2^32 plus 19 or 20"
+pub const SCRIPT_TOO_LONG: u64 = 4294967315;
 
-pub const LISTING_TOO_LONG: u64 = 20;
+pub const LISTING_TOO_LONG: u64 = 4294967316;

@@ -2,7 +2,7 @@
 use native.Mathlib.Omega.{arith}
 use borrow.Author.Needs.{needs}
 use Rattle.calls.proofs.ReadWithin.{test-no, test-yes}
-use Rattle.calls.proofs.WriteSizes.{reply-sized}
+use Rattle.calls.proofs.TypedRows.{reply-typed}
 use Rattle.calls.proofs.WriteCalls.{call-length, call-room, call-unknown, call-held, call-done}
 use Rattle.calls.proofs.dimecandle_call.Statement.{statement}
 use Rattle.calls.proofs.dimecandle_call.Tie as tie
@@ -35,7 +35,7 @@ same-length : tie.Need-same-length
 same-length c = search needs
 
 returns-5 : tie.Need-returns-5
-returns-5 c = call-done (c .before .before .before .before .before .before .before .before .before .before .before .before .before .args .request .now) (c .before .before .before .before .before .before .before .before .before .before .before .before .before .args .reply .now) (c .before .before .before .before .before .before .before .before .before .before .if1 .left) (c .before .before .before .before .before .before .before .before .before .if2 .left) (omega (arith, c .before .before .before .before .before .before .before .before .word .ensures, c .before .before .before .before .before .before .before .if3 .left)) (test-yes (c .before .before .before .before .before .before .holds .ensures) (c .before .before .before .before .before .if4 .left)) (omega (arith, c .before .before .before .before .before .before .before .before .before .before .before .before .before .good)) (c .before .before .before .reply-to .result) (reply-sized (c .before .before .before .reply-to .result) (c .before .before .before .reply-to .ok)) (c .before .before .before .reply-to .ensures) (c .before .before .put-reply .ensures)
+returns-5 c = call-done (c .before .before .before .before .before .before .before .before .before .before .before .before .before .args .request .now) (c .before .before .before .before .before .before .before .before .before .before .before .before .before .args .reply .now) (c .before .before .before .before .before .before .before .before .before .before .if1 .left) (c .before .before .before .before .before .before .before .before .before .if2 .left) (omega (arith, c .before .before .before .before .before .before .before .before .word .ensures, c .before .before .before .before .before .before .before .if3 .left)) (test-yes (c .before .before .before .before .before .before .holds .ensures) (c .before .before .before .before .before .if4 .left)) (omega (arith, c .before .before .before .before .before .before .before .before .before .before .before .before .before .good)) (c .before .before .before .reply-to .result) (reply-typed (c .before .before .before .reply-to .result) (c .before .before .before .reply-to .ok)) (c .before .before .before .reply-to .ensures) (c .before .before .put-reply .ensures)
 
 pub dimecandle-call-spec : {M : Type 1} → statement M
 dimecandle-call-spec =

@@ -16,7 +16,7 @@ word-requires-2 : tie.Need-word-requires-2
 word-requires-2 c κs = search needs
 
 returns : tie.Need-returns
-returns c = cc
+returns c = λ j. record { ids = c .before .before .before .ids-at .ensures j; «ids_len» = c .before .word .ensures j; kinds = c .before .before .kinds-at .ensures j; «kinds_len» = c .word2 .ensures j }
 
 pub change-list-spec : {M : Type 1} → statement M
 change-list-spec =

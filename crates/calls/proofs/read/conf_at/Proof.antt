@@ -1,4 +1,5 @@
 -- `calls::read::conf_at` meets its contract: four sets and the flag. Assumes nothing.
+use Rattle.calls.specs.Layout.{flag}
 use borrow.Author.Needs.{needs}
 use Rattle.calls.proofs.read.conf_at.Statement.{statement}
 use Rattle.calls.proofs.read.conf_at.Tie as tie
@@ -31,7 +32,13 @@ word-requires : tie.Need-word-requires
 word-requires c κs = search needs
 
 returns : tie.Need-returns
-returns c = cc
+returns c = λ j. record {
+  incoming = c .before .before .before .before .set-at .ensures j;
+  outgoing = c .before .before .before .set-at2 .ensures j;
+  learners = c .before .before .set-at3 .ensures j;
+  «learners_next» = c .before .set-at4 .ensures j;
+  «auto_leave» = flag (c .word .ensures j);
+}
 
 pub conf-at-spec : {M : Type 1} → statement M
 conf-at-spec =

@@ -1,4 +1,5 @@
 -- `calls::read::conf_state` meets its contract: four lists and the flag. Assumes nothing.
+use Rattle.calls.specs.Layout.{flag}
 use borrow.Author.Needs.{needs}
 use Rattle.calls.proofs.read.conf_state.Statement.{statement}
 use Rattle.calls.proofs.read.conf_state.Tie as tie
@@ -19,7 +20,13 @@ word-requires : tie.Need-word-requires
 word-requires c κs = search needs
 
 returns : tie.Need-returns
-returns c = cc
+returns c = λ j. record {
+  voters = c .before .before .before .before .list-at .ensures j;
+  learners = c .before .before .before .list-at2 .ensures j;
+  «voters_outgoing» = c .before .before .list-at3 .ensures j;
+  «learners_next» = c .before .list-at4 .ensures j;
+  «auto_leave» = flag (c .word .ensures j);
+}
 
 pub conf-state-spec : {M : Type 1} → statement M
 conf-state-spec =

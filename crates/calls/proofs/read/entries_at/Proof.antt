@@ -1,7 +1,8 @@
 -- `calls::read::entries_at` meets its contract: the loop fills 256 entries, 2 words apart. Assumes nothing.
-use Prim.Native.Nat.{_-_, _+_, _*_}
-use mathlib.Core.Path.{refl}
+use Prim.Native.Nat.{ℕ, _-_, _+_, _*_}
+use mathlib.Core.Path.{refl, ap, _∙_}
 use borrow.Author.Needs.{needs}
+use Rattle.calls.specs.Layout.{kindNamed}
 use Rattle.calls.proofs.ReadFilled.{Filled, entryAt, fill-start, fill-next, entries-end}
 use Rattle.calls.proofs.read.entries_at.Statement.{statement}
 use Rattle.calls.proofs.read.entries_at.Tie as tie
@@ -54,7 +55,8 @@ loop-less c = search needs
 loop-again : tie.Need-loop-again Inv-loop μ-loop
 loop-again c =
     let at = c .before .before .before .before .loop in
-    fill-next (at .inv) (c .before .before .before .before .before .before .args .k + 2 * at .i) (c .before .before .before .loop-test .taken) refl (cc)
+    let name = c .before .kind-named .ensures ∙ ap (λ (w : ℕ). kindNamed w) (c .before .before .word .ensures) in
+    fill-next (at .inv) (c .before .before .before .before .before .before .args .k + 2 * at .i) (c .before .before .before .loop-test .taken) refl (λ j. record { id = c .word2 .ensures j; kind = name j })
 
 returns : tie.Need-returns Inv-loop μ-loop
 returns c = entries-end (c .before .before .before .args .s .now) (c .before .loop .inv) (c .loop-test .left)

@@ -10,7 +10,7 @@ word-requires : tie.Need-word-requires
 word-requires c κs = search needs
 
 returns : tie.Need-returns
-returns c = cc
+returns c = λ j. record { entries = c .before .entries-at .ensures j; count = c .word .ensures j }
 
 pub log-spec : {M : Type 1} → statement M
 log-spec = tie.close (tie.spec entries-at-requires word-requires returns)

@@ -1,4 +1,7 @@
 -- `calls::read::record_at` meets its contract: each field is its word. Assumes nothing.
+use Prim.Native.Nat.{ℕ}
+use mathlib.Core.Path.{ap, _∙_}
+use Rattle.calls.specs.Layout.{flag, stateNamed}
 use borrow.Author.Needs.{needs}
 use Rattle.calls.proofs.read.record_at.Statement.{statement}
 use Rattle.calls.proofs.read.record_at.Tie as tie
@@ -64,7 +67,20 @@ word-requires-10 : tie.Need-word-requires-10
 word-requires-10 c κs = search needs
 
 returns : tie.Need-returns
-returns c = cc
+returns c =
+    let name = c .before .before .before .before .before .before .before .before .before .state-named .ensures ∙ ap (λ (w : ℕ). stateNamed w) (c .before .before .before .before .before .before .before .before .before .before .word .ensures) in
+    λ j. record {
+      matched = c .before .before .before .before .before .before .before .before .word2 .ensures j;
+      «next_idx» = c .before .before .before .before .before .before .before .word3 .ensures j;
+      state = name j;
+      paused = flag (c .before .before .before .before .before .before .word4 .ensures j);
+      «pending_snapshot» = c .before .before .before .before .before .word5 .ensures j;
+      «pending_request_snapshot» = c .before .before .before .before .word6 .ensures j;
+      «recent_active» = flag (c .before .before .before .word7 .ensures j);
+      «max_inflight» = c .before .before .word8 .ensures j;
+      «commit_group_id» = c .before .word9 .ensures j;
+      «committed_index» = c .word10 .ensures j;
+    }
 
 pub record-at-spec : {M : Type 1} → statement M
 record-at-spec =

@@ -13,7 +13,7 @@ word-requires : tie.Need-word-requires
 word-requires c κs = search needs
 
 returns : tie.Need-returns
-returns c = cc
+returns c = λ j. record { ids = c .before .words-at .ensures j; len = c .word .ensures j }
 
 pub set-at-spec : {M : Type 1} → statement M
 set-at-spec = tie.close (tie.spec words-at-requires add-word word-requires returns)

@@ -16,7 +16,7 @@ word-requires : tie.Need-word-requires
 word-requires c κs = search needs
 
 returns : tie.Need-returns
-returns c = cc
+returns c = λ j. record { conf = c .before .before .before .conf-at .ensures j; ids = c .before .before .set-at .ensures j; records = c .before .records-at .ensures j; «max_inflight» = c .word .ensures j }
 
 pub state-spec : {M : Type 1} → statement M
 state-spec =

@@ -1,0 +1,37 @@
+-- The definitions tried on small lists: each line rules out a layout or an entry that does otherwise. Assumes nothing.
+use mathlib.Core.Path.{_≡_, refl}
+use mathlib.Core.Bool.{true, false}
+use mathlib.Core.List.{[], _∷_}
+use lib.ListN.{replicate}
+use Rattle.calls.specs.Layout.{number, word, words, within}
+use Rattle.calls.specs.Reply.{bytes, wordBytes, allBytes}
+use Rattle.calls.specs.Call.{callAnswer, callLeaves}
+
+-- not the most significant byte first; a byte that is not there counts as 0
+pub numbers : (number 2 (1 ∷ 2 ∷ []) 0 ≡ 513) × (number 2 (7 ∷ 1 ∷ 2 ∷ []) 1 ≡ 513) × (number 8 (1 ∷ 2 ∷ []) 0 ≡ 513)
+unfolding number
+numbers = (refl, refl, refl)
+
+pub number-bytes : (bytes 2 513 ≡ 1 ∷ 2 ∷ []) × (wordBytes 513 ≡ 1 ∷ 2 ∷ 0 ∷ 0 ∷ 0 ∷ 0 ∷ 0 ∷ 0 ∷ [])
+unfolding bytes wordBytes
+number-bytes = (refl, refl)
+
+-- the first word first
+pub word-places : (words 2 (allBytes (513 ∷ 7 ∷ [])) 0 ≡ 513 ∷ 7 ∷ []) × (word (allBytes (513 ∷ 7 ∷ [])) 1 ≡ 7)
+unfolding number words bytes wordBytes allBytes
+word-places = (refl, refl)
+
+-- a flag of 1 can be held and one of 2 not; a kind of 255 can be and one of 256 not, though its least significant byte is 0
+pub held : (within 1 1 1 (1 ∷ []) 0 ≡ true) × (within 1 1 1 (2 ∷ []) 0 ≡ false) × (within 2 255 1 (allBytes (0 ∷ 255 ∷ [])) 0 ≡ true) × (within 2 255 1 (allBytes (0 ∷ 256 ∷ [])) 0 ≡ false)
+unfolding number within bytes wordBytes allBytes
+held = (refl, refl, refl, refl)
+
+-- a request of no bytes: 1, also where the reply is too short, and the reply is as it was
+pub wrong-length : (callAnswer [] 0 ≡ 1) × (callAnswer [] 13952 ≡ 1) × (callLeaves [] (9 ∷ []) ≡ 9 ∷ [])
+unfolding callAnswer callLeaves
+wrong-length = (refl, refl, refl)
+
+-- a request of the right length, all zeros, and a reply one byte too short: 2
+pub short-reply : callAnswer (replicate 20216 0) 13951 ≡ 2
+unfolding callAnswer
+short-reply = refl

@@ -1,0 +1,100 @@
+-- The definitions tried on small configurations. Above each line stands what it rules out: a program that would give another value there.
+-- Assumes nothing.
+use Prim.Native.Nat.{ℕ}
+use mathlib.Core.Path.{_≡_, refl}
+use mathlib.Core.Bool.{true, false}
+use mathlib.Core.List.{[], _∷_}
+use lib.ListN.{take}
+use Rattle.rules.specs.Ids.{memb, above, ascending, insertId, insertAll, sameIds}
+use Rattle.rules.specs.State.{State, ids, confFormed, formed}
+use Rattle.rules.specs.Answers.{ok, fault, each}
+use Rattle.rules.specs.Check.{joint, check, checkState, inOrder}
+use Rattle.rules.specs.Rows.{olds, conf, of}
+use Rattle.rules.specs.Cases.{s1, m1}
+use Rattle.idset.specs.Places.{rank, firstIs}
+use Rattle.idset.specs.Set.{setOf, wellFormed}
+use Rattle.tracker.specs.Bridge.{confOf, configurationOf, trackerOf}
+use Rattle.tracker.specs.Form.{confWellFormed, trackerWellFormed}
+use Rattle.tracker.specs.Apply.{verdictOf}
+use Rattle.tracker.specs.declared.Verdict.{Verdict}
+use Rattle.tracker.proofs.Bridge.{state-back, tracker-well}
+use Rattle.invariants.specs.Walk.{firstOut, firstIn, nobody, first}
+use Rattle.invariants.specs.Check.{checkWalk, checkOf, inOrderOf}
+
+-- `joint` that asks incoming; that is negated
+pub joint-or-not : (joint (confOf (configurationOf (conf (1 ∷ []) [] [] []))) ≡ false) × (joint (confOf (configurationOf (conf [] (1 ∷ []) [] []))) ≡ true)
+unfolding setOf
+joint-or-not = (refl, refl)
+
+pub walked :
+    -- `first_out` that gives the last
+    (firstOut (1 ∷ 2 ∷ 3 ∷ []) (2 ∷ []) ≡ first 1)
+    -- `first_out` that finds something where all are met
+    × (firstOut (1 ∷ 3 ∷ []) (1 ∷ 2 ∷ 3 ∷ []) ≡ nobody)
+    -- `first_out` that begins anew at each id: on lists that do not ascend the walk does not meet 1
+    × (firstOut (5 ∷ 1 ∷ []) (1 ∷ 5 ∷ []) ≡ first 1)
+    -- `first_out` that looks past `n`
+    × (firstOut (take 1 (2 ∷ [])) (take 1 (1 ∷ 2 ∷ [])) ≡ first 2)
+    -- `first_in` that gives the last
+    × (firstIn (1 ∷ 2 ∷ 3 ∷ []) (2 ∷ 3 ∷ []) ≡ first 2)
+    -- `first_in` that begins anew at each id
+    × (firstIn (5 ∷ 1 ∷ []) (1 ∷ 6 ∷ []) ≡ nobody)
+    -- `first_in` that looks past `m`
+    × (firstIn (take 1 (1 ∷ 2 ∷ [])) (take 1 (2 ∷ [])) ≡ nobody)
+unfolding firstOut firstIn rank firstIs
+walked = (refl, refl, refl, refl, refl, refl, refl)
+
+-- The tracked ids, and the configuration.
+pub faults :
+    -- 7 looked for set by set: 3
+    (checkWalk (4 ∷ []) (conf (3 ∷ 4 ∷ []) (2 ∷ []) [] []) ≡ fault 7 2)
+    -- the later fault: 3 is not tracked
+    × (checkWalk (1 ∷ 2 ∷ []) (conf (1 ∷ []) (1 ∷ 2 ∷ []) (2 ∷ 3 ∷ []) []) ≡ fault 9 2)
+    -- 9 and 10 exchanged
+    × (checkWalk (1 ∷ []) (conf (1 ∷ []) (1 ∷ []) (1 ∷ []) []) ≡ fault 9 1)
+    × (checkWalk (1 ∷ 2 ∷ []) (conf (1 ∷ 2 ∷ []) [] (2 ∷ []) []) ≡ fault 10 2)
+    -- 12 as the Rust's text has it: for a staged id that is an outgoing voter
+    × (checkWalk (1 ∷ 2 ∷ []) (conf (1 ∷ []) (1 ∷ 2 ∷ []) [] (2 ∷ [])) ≡ ok)
+    × (checkWalk (1 ∷ 2 ∷ []) (conf (1 ∷ []) (1 ∷ []) [] (2 ∷ [])) ≡ fault 12 2)
+unfolding checkWalk firstOut firstIn rank firstIs
+faults = (refl, refl, refl, refl, refl, refl)
+
+abbrev said : ℕ → ℕ → Verdict
+said n x = record { number = n; id = x }
+
+-- of a well-formed state both are the rules', through the bridge
+check-of : (s : State) → formed s ≡ true → checkOf (trackerOf s) ≡ verdictOf (checkState s)
+unfolding checkOf
+check-of s w = rw (tracker-well s w, state-back s w)
+
+order-of : (s : State) → formed s ≡ true → inOrderOf (trackerOf s) ≡ inOrder s
+unfolding inOrderOf
+order-of s w = rw (tracker-well s w, state-back s w)
+
+-- voter 1 not tracked; id 0 tracked, a voter; voter 1 with an idle box 2
+abbrev untracked : State
+untracked = of [] (s1 .conf)
+
+abbrev zero-in : State
+zero-in = of (olds (0 ∷ [])) (conf (0 ∷ []) [] [] [])
+
+abbrev idle-in : State
+idle-in = of (olds (1 ∷ 2 ∷ [])) (s1 .conf)
+
+pub checked :
+    -- `check` that refuses everything
+    (checkOf (trackerOf s1) ≡ said 0 0)
+    -- `check` that accepts a malformed state
+    × (checkOf (trackerOf m1) ≡ said 1 0)
+    -- `check` that does not look at the tracked ids; that drops the id
+    × (checkOf (trackerOf untracked) ≡ said 7 1)
+    -- `in_order` that is always no
+    × (inOrderOf (trackerOf s1) ≡ true)
+    -- `in_order` that lets id 0 in
+    × (inOrderOf (trackerOf zero-in) ≡ false)
+    -- `in_order` that lets an idle box in
+    × (inOrderOf (trackerOf idle-in) ≡ false)
+    -- `in_order` that lets an untracked member in
+    × (inOrderOf (trackerOf untracked) ≡ false)
+unfolding checkOf trackerWellFormed confWellFormed wellFormed setOf ids checkState inOrder check each formed confFormed memb above ascending insertId insertAll sameIds
+checked = (check-of s1 refl, refl, check-of untracked refl, order-of s1 refl, order-of zero-in refl, order-of idle-in refl, order-of untracked refl)
