@@ -3,8 +3,9 @@ use mathlib.Core.Path.{_≡_, refl}
 use mathlib.Core.Bool.{true, false}
 use mathlib.Core.List.{[], _∷_}
 use lib.ListN.{replicate}
+use Rattle.tracker.specs.declared.MapChangeType.the-variants.{Remove}
 use Rattle.calls.specs.Layout.{number, word, words, within}
-use Rattle.calls.specs.Reply.{bytes, wordBytes, allBytes}
+use Rattle.calls.specs.Reply.{bytes, wordBytes, allBytes, entriesWords, logWords}
 use Rattle.calls.specs.Call.{callAnswer, callLeaves}
 
 -- not the most significant byte first; a byte that is not there counts as 0
@@ -20,6 +21,11 @@ number-bytes = (refl, refl)
 pub word-places : (words 2 (allBytes (513 ∷ 7 ∷ [])) 0 ≡ 513 ∷ 7 ∷ []) × (word (allBytes (513 ∷ 7 ∷ [])) 1 ≡ 7)
 unfolding number words bytes wordBytes allBytes
 word-places = (refl, refl)
+
+-- a log's entries, and then its count
+pub log-places : logWords (record { entries = record { id = 5; kind = Remove } ∷ []; count = 9 }) ≡ 5 ∷ 1 ∷ 9 ∷ []
+unfolding entriesWords logWords
+log-places = refl
 
 -- a flag of 1 can be held and one of 2 not; a kind of 255 can be and one of 256 not, though its least significant byte is 0
 pub held : (within 1 1 1 (1 ∷ []) 0 ≡ true) × (within 1 1 1 (2 ∷ []) 0 ≡ false) × (within 2 255 1 (allBytes (0 ∷ 255 ∷ [])) 0 ≡ true) × (within 2 255 1 (allBytes (0 ∷ 256 ∷ [])) 0 ≡ false)

@@ -1,6 +1,5 @@
 // What is answered, in the words of document 01's examples.
 use crate::say;
-use crate::state::is_fresh;
 use crate::state::say_conf;
 use crate::state::say_whole;
 use changer::Answer;
@@ -9,7 +8,6 @@ use tracker::ChangeLog;
 use tracker::MapChange;
 use tracker::MapChangeType;
 use tracker::Outcome;
-use tracker::Tracker;
 use tracker::Verdict;
 use tracker::numbers;
 
@@ -65,21 +63,11 @@ fn say_entry(e: MapChange) {
 
 // What `restore` answers: the state that it leaves, after the refusal if there is one.
 pub fn say_outcome(o: Outcome) {
-    if o.number == numbers::ACCEPTED {
-        say_whole(o.tracker);
-        return;
+    if o.number != numbers::ACCEPTED {
+        say_refused(o.number, o.id);
+        say::words(b", left with ");
     }
-    say_refused(o.number, o.id);
-    say_left(o.tracker);
-}
-
-fn say_left(t: Tracker) {
-    if is_fresh(t) {
-        say::words(b", still fresh");
-        return;
-    }
-    say::words(b", left with ");
-    say_whole(t);
+    say_whole(o.tracker);
 }
 
 // What the check answers.
@@ -92,9 +80,11 @@ pub fn say_check(v: Verdict) {
 }
 
 // What tells a record in use from a fresh one.
-pub fn say_record(r: Progress) {
+pub fn say_record(asked: &[u8], r: Progress) {
+    say::words(asked);
     say::words(b"matched ");
     say::number(r.matched);
     say::words(b", next_idx ");
     say::number(r.next_idx);
+    say::words(b"\n");
 }

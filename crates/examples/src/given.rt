@@ -12,12 +12,9 @@ pub const REMOVE: u8 = 1;
 
 pub const LEARNER: u8 = 2;
 
-// The `max_inflight` of every state here.
-pub const MAX_INFLIGHT: u64 = 256;
-
 // The fresh state.
 pub fn fresh() -> Tracker {
-    Tracker::new(MAX_INFLIGHT)
+    Tracker::new(256)
 }
 
 // A group with these voters and learners, each with a record whose `next_idx` is 10.

@@ -12,66 +12,100 @@ use crate::given::voters;
 
 mod given; // what the examples begin from
 mod ask; // a call made, and its line printed
-mod asked; // the text of what is asked
 mod answered; // the text of what is answered
 mod state; // the text of a state
 mod say; // pieces of text, written
 
 // Fresh, simple add 1.
 fn example_1() {
-    ask::simple(b"1 ", fresh(), &[1], &[ADD]);
+    ask::simple(b"1 fresh, simple add 1: ", fresh(), &[1], &[ADD]);
 }
 
 // Fresh, simple with empty list, or add 0.
 fn example_2() {
-    ask::simple(b"2 ", fresh(), &[], &[]);
-    ask::simple(b"2 ", fresh(), &[0], &[ADD]);
+    ask::simple(b"2 fresh, simple with empty list: ", fresh(), &[], &[]);
+    ask::simple(b"2 fresh, simple add 0: ", fresh(), &[0], &[ADD]);
 }
 
 // Fresh, simple add 1, add 2.
 fn example_3() {
-    ask::simple(b"3 ", fresh(), &[1, 2], &[ADD, ADD]);
+    ask::simple(
+        b"3 fresh, simple add 1, add 2: ",
+        fresh(),
+        &[1, 2],
+        &[ADD, ADD],
+    );
 }
 
 // Voters (1), simple add 2, remove 2: counting changes would refuse it.
 fn example_4() {
-    ask::simple(b"4 ", voters(&[1]), &[2, 2], &[ADD, REMOVE]);
+    ask::simple(
+        b"4 voters (1), simple add 2, remove 2: ",
+        voters(&[1]),
+        &[2, 2],
+        &[ADD, REMOVE],
+    );
 }
 
 // Voters (1 2 3), simple remove 3, add 4.
 fn example_5() {
-    ask::simple(b"5 ", voters(&[1, 2, 3]), &[3, 4], &[REMOVE, ADD]);
+    ask::simple(
+        b"5 voters (1 2 3), simple remove 3, add 4: ",
+        voters(&[1, 2, 3]),
+        &[3, 4],
+        &[REMOVE, ADD],
+    );
 }
 
 // Voters (1), simple remove 1.
 fn example_6() {
-    ask::simple(b"6 ", voters(&[1]), &[1], &[REMOVE]);
+    ask::simple(
+        b"6 voters (1), simple remove 1: ",
+        voters(&[1]),
+        &[1],
+        &[REMOVE],
+    );
 }
 
 // Fresh, enter add 1.
 fn example_7() {
-    ask::enter(b"7 ", fresh(), &[1], &[ADD]);
+    ask::enter(b"7 fresh, enter add 1: ", fresh(), &[1], &[ADD]);
 }
 
 // Voters (1 2 3), enter learner 3, add 4; leave.
 fn example_8() {
-    let t = ask::enter(b"8 ", voters(&[1, 2, 3]), &[3, 4], &[LEARNER, ADD]);
-    ask::leave(b"8 ", t);
+    let t = ask::enter(
+        b"8 voters (1 2 3), enter learner 3, add 4: ",
+        voters(&[1, 2, 3]),
+        &[3, 4],
+        &[LEARNER, ADD],
+    );
+    ask::leave(b"8 leave: ", t);
 }
 
 // Voters (1 2 3), enter remove 3; leave.
 fn example_9() {
-    let t = ask::enter(b"9 ", voters(&[1, 2, 3]), &[3], &[REMOVE]);
-    ask::leave(b"9 ", t);
+    let t = ask::enter(
+        b"9 voters (1 2 3), enter remove 3: ",
+        voters(&[1, 2, 3]),
+        &[3],
+        &[REMOVE],
+    );
+    ask::leave(b"9 leave: ", t);
 }
 
 // Voters (1), learners (2), simple remove 2, learner 2. The record of 2, at place 1, was in use; then it is a fresh one.
 fn example_10() {
     let mut before = group(list(&[1]), list(&[2]));
     before.records[1].matched = 9;
-    let after = ask::simple(b"10 ", before, &[2, 2], &[REMOVE, LEARNER]);
-    ask::record(b"10 record of 2 before", before, 2);
-    ask::record(b"10 record of 2 after", after, 2);
+    let after = ask::simple(
+        b"10 voters (1), learners (2), simple remove 2, learner 2: ",
+        before,
+        &[2, 2],
+        &[REMOVE, LEARNER],
+    );
+    answered::say_record(b"10 record of 2 before: ", before.records[1]);
+    answered::say_record(b"10 record of 2 after: ", after.records[1]);
 }
 
 // Fresh, restore voters (1 2 3), learners (5), outgoing (1 2 4 6), staged (4); its last step alone, since `restore` gives no log; leave.
@@ -82,9 +116,12 @@ fn example_11() {
         list(&[1, 2, 4, 6]),
         list(&[4]),
     );
-    let t = ask::restore(b"11 ", cs);
+    let t = ask::restore(
+        b"11 fresh, restore voters (1 2 3), learners (5), outgoing (1 2 4 6), staged (4): ",
+        cs,
+    );
     ask::enter(
-        b"11 its last step, ",
+        b"11 its last step, voters (1 2 4 6), enter remove 1, remove 2, remove 4, remove 6, add 1, add 2, add 3, learner 5, learner 4: ",
         voters(&[1, 2, 4, 6]),
         &[1, 2, 4, 6, 1, 2, 3, 5, 4],
         &[
@@ -99,35 +136,54 @@ fn example_11() {
             LEARNER,
         ],
     );
-    ask::leave(b"11 ", t);
+    ask::leave(b"11 leave: ", t);
 }
 
 // Fresh, restore voters (1 2), learners (1 2).
 fn example_12() {
     ask::restore(
-        b"12 ",
+        b"12 fresh, restore voters (1 2), learners (1 2): ",
         conf_state(list(&[1, 2]), list(&[1, 2]), none(), none()),
     );
 }
 
 // Fresh, restore voters (0 1), and (1 0).
 fn example_13() {
-    ask::restore(b"13 ", conf_state(list(&[0, 1]), none(), none(), none()));
-    ask::restore(b"13 ", conf_state(list(&[1, 0]), none(), none(), none()));
+    ask::restore(
+        b"13 fresh, restore voters (0 1): ",
+        conf_state(list(&[0, 1]), none(), none(), none()),
+    );
+    ask::restore(
+        b"13 fresh, restore voters (1 0): ",
+        conf_state(list(&[1, 0]), none(), none(), none()),
+    );
 }
 
 // Incoming (1 2), outgoing (1 2), staged (2), tracked 1 and 2: the check, and leave.
 fn example_14() {
     let t = given::stuck();
-    ask::check(b"14 ", t);
-    ask::leave(b"14 ", t);
+    ask::check(
+        b"14 incoming (1 2), outgoing (1 2), staged (2), tracked 1 and 2: ",
+        t,
+    );
+    ask::leave(b"14 leave: ", t);
 }
 
 // Voters 1 to 63, learner 64: room freed in the list is used after it was freed, and not before.
 fn example_15_room() {
     let full = group(given::one_to_63(), list(&[64]));
-    ask::simple(b"15 ", full, &[64, 65], &[REMOVE, LEARNER]);
-    ask::simple(b"15 ", full, &[65, 64], &[LEARNER, REMOVE]);
+    ask::simple(
+        b"15 voters 1 to 63, learner 64, simple remove 64, learner 65: ",
+        full,
+        &[64, 65],
+        &[REMOVE, LEARNER],
+    );
+    ask::simple(
+        b"15 voters 1 to 63, learner 64, simple learner 65, remove 64: ",
+        full,
+        &[65, 64],
+        &[LEARNER, REMOVE],
+    );
 }
 
 // A list of 256 is read, up to its last change; one of 257 is not. The others are add 0, which is skipped.
@@ -136,8 +192,18 @@ fn example_15_length() {
     let mut kinds = [ADD; 257];
     ids[256] = 2;
     kinds[256] = LEARNER;
-    ask::simple(b"15 ", voters(&[1]), &ids[1..], &kinds[1..]);
-    ask::simple(b"15 ", voters(&[1]), &ids, &kinds);
+    ask::simple(
+        b"15 voters (1), simple with a list of 256, the last learner 2: ",
+        voters(&[1]),
+        &ids[1..],
+        &kinds[1..],
+    );
+    ask::simple(
+        b"15 voters (1), simple with a list of 257, the last learner 2: ",
+        voters(&[1]),
+        &ids,
+        &kinds,
+    );
 }
 
 fn main() {

@@ -1,44 +1,7 @@
 // A state, in the words of document 01's examples.
-use crate::given::MAX_INFLIGHT;
 use crate::say;
 use tracker::Configuration;
 use tracker::Tracker;
-
-// As the examples name it: `fresh`, or its sets.
-pub fn say_state(t: Tracker) {
-    if is_fresh(t) {
-        say::words(b"fresh");
-        return;
-    }
-    say_conf(t.conf);
-}
-
-// Well formed, nothing in any set, nothing tracked, the flag false, `max_inflight` as given.
-pub fn is_fresh(t: Tracker) -> bool {
-    let conf = t.conf;
-    if t.is_malformed() {
-        return false;
-    }
-    if t.max_inflight != MAX_INFLIGHT {
-        return false;
-    }
-    if !t.ids.is_empty() {
-        return false;
-    }
-    if !conf.incoming.is_empty() {
-        return false;
-    }
-    if !conf.outgoing.is_empty() {
-        return false;
-    }
-    if !conf.learners.is_empty() {
-        return false;
-    }
-    if !conf.learners_next.is_empty() {
-        return false;
-    }
-    !conf.auto_leave
-}
 
 // A state with its tracked ids.
 pub fn say_whole(t: Tracker) {
