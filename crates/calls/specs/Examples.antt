@@ -41,3 +41,8 @@ wrong-length = (refl, refl, refl)
 pub short-reply : callAnswer (replicate 20216 0) 13951 ≡ 2
 unfolding callAnswer
 short-reply = refl
+
+-- a request of the right length whose call is 8: 3
+pub unknown-call : callAnswer (8 ∷ replicate 20215 0) 13952 ≡ 3
+unfolding callAnswer number
+unknown-call = refl
