@@ -12,7 +12,7 @@ use tracker::Verdict;
 use tracker::numbers;
 
 // What a call answers: the configuration and the log, or a refusal.
-pub fn say_answer(a: Answer) {
+pub(crate) fn say_answer(a: Answer) {
     if a.number != numbers::ACCEPTED {
         say_refused(a.number, a.id);
         return;
@@ -62,7 +62,7 @@ fn say_entry(e: MapChange) {
 }
 
 // What `restore` answers: the state that it leaves, after the refusal if there is one.
-pub fn say_outcome(o: Outcome) {
+pub(crate) fn say_outcome(o: Outcome) {
     if o.number != numbers::ACCEPTED {
         say_refused(o.number, o.id);
         say::words(b", left with ");
@@ -71,7 +71,7 @@ pub fn say_outcome(o: Outcome) {
 }
 
 // What the check answers.
-pub fn say_check(v: Verdict) {
+pub(crate) fn say_check(v: Verdict) {
     if v.number == numbers::ACCEPTED {
         say::words(b"the check passes");
         return;
@@ -80,7 +80,7 @@ pub fn say_check(v: Verdict) {
 }
 
 // What tells a record in use from a fresh one.
-pub fn say_record(asked: &[u8], r: Progress) {
+pub(crate) fn say_record(asked: &[u8], r: Progress) {
     say::words(asked);
     say::words(b"matched ");
     say::number(r.matched);

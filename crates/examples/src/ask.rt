@@ -14,17 +14,17 @@ use tracker::Tracker;
 const NEXT_IDX: u64 = 77;
 
 // `simple` with this list.
-pub fn simple<'a>(asked: &[u8], t: Tracker, ids: &'a [u64], kinds: &'a [u8]) -> Tracker {
+pub(crate) fn simple<'a>(asked: &[u8], t: Tracker, ids: &'a [u64], kinds: &'a [u8]) -> Tracker {
     told(asked, t, changer::simple(t, ids, kinds))
 }
 
 // `enter_joint` with this list, without auto leave.
-pub fn enter<'a>(asked: &[u8], t: Tracker, ids: &'a [u64], kinds: &'a [u8]) -> Tracker {
+pub(crate) fn enter<'a>(asked: &[u8], t: Tracker, ids: &'a [u64], kinds: &'a [u8]) -> Tracker {
     told(asked, t, enter_joint(t, false, ids, kinds))
 }
 
 // `leave_joint`.
-pub fn leave(asked: &[u8], t: Tracker) -> Tracker {
+pub(crate) fn leave(asked: &[u8], t: Tracker) -> Tracker {
     told(asked, t, leave_joint(t))
 }
 
@@ -38,7 +38,7 @@ fn told(asked: &[u8], t: Tracker, a: Answer) -> Tracker {
 }
 
 // `restore` of the fresh state.
-pub fn restore(asked: &[u8], cs: ConfState) -> Tracker {
+pub(crate) fn restore(asked: &[u8], cs: ConfState) -> Tracker {
     let o = restore::restore(fresh(), cs, NEXT_IDX);
     say::words(asked);
     answered::say_outcome(o);
@@ -47,7 +47,7 @@ pub fn restore(asked: &[u8], cs: ConfState) -> Tracker {
 }
 
 // The check of a state.
-pub fn check(asked: &[u8], t: Tracker) {
+pub(crate) fn check(asked: &[u8], t: Tracker) {
     say::words(asked);
     answered::say_check(invariants::check(t));
     say::words(b"\n");

@@ -6,30 +6,30 @@ use tracker::IdList;
 use tracker::Tracker;
 
 // AddNode, RemoveNode, AddLearnerNode.
-pub const ADD: u8 = 0;
+pub(crate) const ADD: u8 = 0;
 
-pub const REMOVE: u8 = 1;
+pub(crate) const REMOVE: u8 = 1;
 
-pub const LEARNER: u8 = 2;
+pub(crate) const LEARNER: u8 = 2;
 
 // The fresh state.
-pub fn fresh() -> Tracker {
+pub(crate) fn fresh() -> Tracker {
     Tracker::new(256)
 }
 
 // A group with these voters and learners, each with a record whose `next_idx` is 10.
-pub fn group(voters: IdList, learners: IdList) -> Tracker {
+pub(crate) fn group(voters: IdList, learners: IdList) -> Tracker {
     let o = restore(fresh(), conf_state(voters, learners, none(), none()), 10);
     o.tracker
 }
 
 // A group of voters alone.
-pub fn voters(ids: &[u64]) -> Tracker {
+pub(crate) fn voters(ids: &[u64]) -> Tracker {
     group(list(ids), none())
 }
 
 // Incoming (1 2), outgoing (1 2), staged (2), tracked 1 and 2: built by hand, since no calls from fresh lead there.
-pub fn stuck() -> Tracker {
+pub(crate) fn stuck() -> Tracker {
     let mut t = voters(&[1, 2]);
     let mut conf = t.conf;
     let both = conf.incoming;
@@ -42,7 +42,7 @@ pub fn stuck() -> Tracker {
 }
 
 // The flag is false.
-pub fn conf_state(
+pub(crate) fn conf_state(
     voters: IdList,
     learners: IdList,
     voters_outgoing: IdList,
@@ -58,7 +58,7 @@ pub fn conf_state(
 }
 
 // The empty list.
-pub fn none() -> IdList {
+pub(crate) fn none() -> IdList {
     IdList {
         ids: [0u64; 64],
         len: 0,
@@ -66,7 +66,7 @@ pub fn none() -> IdList {
 }
 
 // The list of these ids, at most 64 of them.
-pub fn list(ids: &[u64]) -> IdList {
+pub(crate) fn list(ids: &[u64]) -> IdList {
     let mut places = [0u64; 64];
     let mut n = 0;
     while n < ids.len() {
@@ -86,7 +86,7 @@ pub fn list(ids: &[u64]) -> IdList {
 }
 
 // The list 1 to 63.
-pub fn one_to_63() -> IdList {
+pub(crate) fn one_to_63() -> IdList {
     let mut ids = [0u64; 64];
     let mut n = 0;
     let mut id = 1;

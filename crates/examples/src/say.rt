@@ -1,17 +1,17 @@
 // Pieces of a line, written to standard output one after the other.
 use libc::STDOUT_FILENO;
 
-pub fn words(piece: &[u8]) {
+pub(crate) fn words(piece: &[u8]) {
     io::write_all(STDOUT_FILENO, piece);
 }
 
 // The number in decimal.
-pub fn number(n: u64) {
+pub(crate) fn number(n: u64) {
     io::print_decimal(STDOUT_FILENO, n);
 }
 
 // A label, and the first `n` ids in parentheses; 64 ids fit the buffer.
-pub fn ids(label: &[u8], list: &[u64], n: usize) {
+pub(crate) fn ids(label: &[u8], list: &[u64], n: usize) {
     words(label);
     let mut group = [0u8; 1345];
     if n <= list.len() {
@@ -21,7 +21,7 @@ pub fn ids(label: &[u8], list: &[u64], n: usize) {
 }
 
 // The same where there is an id.
-pub fn some_ids(label: &[u8], list: &[u64], n: usize) {
+pub(crate) fn some_ids(label: &[u8], list: &[u64], n: usize) {
     if n != 0 {
         ids(label, list, n);
     }

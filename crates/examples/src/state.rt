@@ -4,14 +4,14 @@ use tracker::Configuration;
 use tracker::Tracker;
 
 // A state with its tracked ids.
-pub fn say_whole(t: Tracker) {
+pub(crate) fn say_whole(t: Tracker) {
     say_conf(t.conf);
     let tracked = t.ids;
     say::ids(b", tracked ", &tracked.ids, tracked.len);
 }
 
 // Voters, then what there is of outgoing, learners, staged ids and the flag.
-pub fn say_conf(conf: Configuration) {
+pub(crate) fn say_conf(conf: Configuration) {
     let incoming = conf.incoming;
     let outgoing = conf.outgoing;
     let learners = conf.learners;

@@ -6,7 +6,7 @@ ghost use mathlib.Core.Path.{_≡_};
 ghost use lib.ListN.{length};
 
 // The six words before a case's bytes.
-pub struct Head {
+pub(crate) struct Head {
     // whether they are all there
     pub whole: bool,
     // bytes of the pieces
@@ -23,7 +23,7 @@ pub struct Head {
 }
 
 // What a replay shows.
-pub enum Outcome {
+pub(crate) enum Outcome {
     Same,
     // The file ends in the case.
     Cut,
@@ -38,7 +38,7 @@ pub enum Outcome {
 }
 
 // Whether the entry answered as it has to.
-pub fn is_same(o: Outcome) -> bool {
+pub(crate) fn is_same(o: Outcome) -> bool {
     match o {
         Outcome::Same => true,
         _ => false,
@@ -46,7 +46,7 @@ pub fn is_same(o: Outcome) -> bool {
 }
 
 // Whether the next case cannot be read.
-pub fn is_lost(o: Outcome) -> bool {
+pub(crate) fn is_lost(o: Outcome) -> bool {
     match o {
         Outcome::Cut => true,
         Outcome::Long => true,
@@ -55,7 +55,7 @@ pub fn is_lost(o: Outcome) -> bool {
 }
 
 // Bytes that are not there count as 0.
-pub fn read_head() -> Head {
+pub(crate) fn read_head() -> Head {
     let mut s = [0u8; 48];
     let n = io::read_full(STDIN_FILENO, &mut s);
     Head {
@@ -70,7 +70,7 @@ pub fn read_head() -> Head {
 }
 
 // The case of this head, the rest of it read and replayed.
-pub fn fetch(h: Head) -> Outcome {
+pub(crate) fn fetch(h: Head) -> Outcome {
     let n = h.size as usize;
     if !h.whole {
         return Outcome::Cut;

@@ -14,7 +14,7 @@ mod unpack; // the bytes of a case
 const NAME: u64 = 3630857283772967268;
 
 // How many cases were replayed, of each kind; and whether the rest cannot be read.
-pub struct Counts {
+pub(crate) struct Counts {
     pub calls: u64,
     pub scripts: u64,
     pub by_rust: u64,

@@ -4,7 +4,7 @@ use crate::case::Head;
 use crate::case::Outcome;
 use libc::STDOUT_FILENO;
 
-pub fn text(s: &[u8]) {
+pub(crate) fn text(s: &[u8]) {
     io::write_all(STDOUT_FILENO, s);
 }
 
@@ -13,7 +13,7 @@ fn number(n: u64) {
 }
 
 // A case that differs, and in what.
-pub fn difference(n: u64, h: Head, o: Outcome) {
+pub(crate) fn difference(n: u64, h: Head, o: Outcome) {
     match o {
         Outcome::Same => {}
         Outcome::Cut => line(n, b"cut short\n"),
@@ -49,7 +49,7 @@ fn instead(is: u64, wanted: u64) {
 }
 
 // The last two lines.
-pub fn counts(c: Counts) {
+pub(crate) fn counts(c: Counts) {
     number(c.calls);
     text(b" calls, ");
     number(c.scripts);

@@ -7,7 +7,7 @@ ghost use Prim.Native.Nat.{_+_, min};
 ghost use Rattle.text.specs.Put.{last};
 
 // Where a piece ends: in what is read and in what is written. What is damaged ends past both.
-pub struct Ends {
+pub(crate) struct Ends {
     pub from: usize,
     pub to: usize,
 }
@@ -22,7 +22,7 @@ fn damaged() -> Ends {
 }
 
 // The sum, or the largest number where it is larger.
-pub fn sum(a: usize, b: usize) -> usize
+pub(crate) fn sum(a: usize, b: usize) -> usize
     ensures { λ r. ⌜ r ≡ min (a + b) last ⌝ }
 {
     if a <= PAST - b {
@@ -32,7 +32,7 @@ pub fn sum(a: usize, b: usize) -> usize
 }
 
 // All pieces: each has three bytes at least, so there are fewer than there are bytes.
-pub fn unpack(s: &[u8], out: &mut [u8]) -> Ends {
+pub(crate) fn unpack(s: &[u8], out: &mut [u8]) -> Ends {
     let mut from = 0;
     let mut to = 0;
     let mut left = s.len();
