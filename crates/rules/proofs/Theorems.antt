@@ -1,9 +1,11 @@
 -- What is claimed of the rules, one theorem after the other, for the reader. The P examples are specs/Examples.antt. Assumes nothing.
-use Prim.Native.Nat.{ℕ}
+use Prim.Native.Nat.{ℕ, _-_, _≤_}
 use mathlib.Core.Path.{_≡_, ap, _∙_, sym}
 use mathlib.Core.Bool.{Bool, true, false, _&&_, not, cond}
 use mathlib.Core.List.{List, [], _∷_, _++_}
+use native.Mathlib.Omega.{arith}
 use lib.Dec.{eqb}
+use lib.ListN.{length}
 use Rattle.progress.specs.declared.Progress.{Progress}
 use Rattle.rules.specs.Ids.{memb, ascending}
 use Rattle.rules.specs.State.{Conf, Peer, State, ids, members, formed, fresh, Change, Entry}
@@ -12,6 +14,7 @@ use Rattle.rules.specs.Check.{check, isTracked, inOrder}
 use Rattle.rules.specs.Table.{placesOf, placesIn}
 use Rattle.rules.specs.Changes.{pendingTracked, Work, done, change}
 use Rattle.rules.specs.Calls.{listOf, readable, simpleOf, simple, enterOf, enterJoint, leaveOf, leaveJoint}
+use Rattle.rules.specs.Idle.{enterIdles, enterWorks, simpleIdles, simpleWorks}
 use Rattle.rules.specs.Apply.{applyConf}
 use Rattle.rules.specs.Restore.{Step, simpleStep, enterStep, leaveStep, ask}
 use Rattle.rules.specs.Sequences.{Call, perform, afterCalls}
@@ -25,6 +28,7 @@ use Rattle.rules.proofs.Check.{then-left, then-right, refuse-ok}
 use Rattle.rules.proofs.Means.{given-ok, given-then}
 use Rattle.rules.proofs.Order.{stepShort}
 use Rattle.rules.proofs.Applied.{any-applied}
+use Rattle.rules.proofs.Idle.{enter-counts, simple-counts}
 use Rattle.rules.proofs.Demand3.{demand-3, read-short, others-alter-nothing}
 use Rattle.rules.proofs.Table.{change-agrees}
 use Rattle.rules.proofs.Thirteen.{check-never-13, call-never-13}
@@ -86,6 +90,18 @@ module _ (s : State) (n : ℕ) (c : Conf) (log : List Entry) where
   unfolding leaveJoint ask
   leave-is-applied h =
       taken (well (given-ok c log (refuse (not (formed s)) 1 0) (leaveOf s) h)) leaveStep tt (given-then c log (refuse (not (formed s)) 1 0) (leaveOf s) h)
+
+-- ** Which changes did nothing
+
+-- The count of an accepted list is its length less the entries that moved their id or logged, and those are no more than it is long.
+module _ (s : State) (xs ks : List ℕ) (c : Conf) (log : List Entry) where
+  pub simple-count-is-the-rest : simple s xs ks ≡ accepted c log
+      → (simpleIdles s xs ks ≡ length xs - simpleWorks s xs ks) × (simpleWorks s xs ks ≤ length xs)
+  simple-count-is-the-rest h = (omega (arith, simple-counts s xs ks c log h), omega (arith, simple-counts s xs ks c log h))
+
+  pub enter-count-is-the-rest : (auto : Bool) → enterJoint s auto xs ks ≡ accepted c log
+      → (enterIdles s auto xs ks ≡ length xs - enterWorks s auto xs ks) × (enterWorks s auto xs ks ≤ length xs)
+  enter-count-is-the-rest auto h = (omega (arith, enter-counts s xs ks c log auto h), omega (arith, enter-counts s xs ks c log auto h))
 
 -- ** In order is kept
 

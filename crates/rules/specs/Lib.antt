@@ -5,6 +5,7 @@ pub mod Check
 pub mod Table
 pub mod Changes
 pub mod Calls
+pub mod Idle
 pub mod Apply
 pub mod Restore
 pub mod Sequences
@@ -16,3 +17,4 @@ pub mod Examples
 pub mod Cases
 pub mod Refusals
 pub mod Faults
+pub mod IdleExamples
