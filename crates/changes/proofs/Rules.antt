@@ -1,10 +1,10 @@
 -- What a change, and a list of them, makes of the structs is what the rules say of the lists. Assumes nothing.
-use Prim.Native.Nat.{ℕ, _+_, _-_, _≤_, _<_}
+use Prim.Native.Nat.{ℕ, suc, _+_, _-_, _≤_, _<_}
 use mathlib.Core.Path.{_≡_, refl, ap, _∙_, sym}
 use mathlib.Core.Bool.{Bool, true, false, _&&_, not, cond}
 use mathlib.Core.List.{List, [], _∷_, _++_}
 use native.Mathlib.Omega.{arith}
-use borrow.Author.Tests.{not-true}
+use borrow.Author.Tests.{lt-ltb, not-true}
 use lib.Dec.{eqb, leb}
 use lib.ListN.{length}
 use Rattle.progress.specs.declared.Progress.{Progress}
@@ -16,10 +16,12 @@ use Rattle.rules.specs.Table as rules
 use Rattle.rules.specs.Table.{Places, adds, place, placesOf, removes, stays, table}
 use Rattle.rules.specs.Changes.{Done, Work, andThen, change, changes, done, full, logged, pending, pendingTracked, standingNow}
 use Rattle.rules.specs.Calls.{listOf, start, withAuto}
+use Rattle.rules.specs.Idle.{countOf, idles, isIdle, logsNothing, oneMoreIf, whenDone}
 use Rattle.rules.proofs.Sets.{length-remove}
 use Rattle.rules.proofs.Formed.{Sets, sets-of}
-use Rattle.rules.proofs.Boxes.{Sound}
+use Rattle.rules.proofs.Boxes.{Sound, spot}
 use Rattle.rules.proofs.Changes.{After, Fine, change-done, ids-enrol, now, pending-append, stands-here}
+use Rattle.rules.proofs.Idle.{anyTold, idle-told}
 use Rattle.rules.proofs.Steps.{auto-sound}
 use Rattle.rules.proofs.Order.{conf-formed}
 use Rattle.rules.proofs.Accept.{passes-sound}
@@ -35,20 +37,20 @@ use Rattle.changes.specs.declared.table.Effect.{Effect}
 use Rattle.changes.specs.declared.table.Effect.the-variants.{Stays, Adds, Removes}
 use Rattle.changes.specs.Pending.{trackedIn}
 use Rattle.changes.specs.Table.{standingNamed, kindNamed, effectNamed, rowOf, moveOf, kindIn}
-use Rattle.changes.specs.Change.{standsIn, placeIn, pushIn, workIn, fullIn, byEffect, movedIn, changeIn, changesIn}
+use Rattle.changes.specs.Change.{standsIn, placeIn, anyChangedIn, oneMore, idleAfter, pushIn, workIn, fullIn, skippedIn, byEffect, movedIn, changeIn, changesIn}
 use Rattle.changes.proofs.Standings.{table-agrees, row-agrees, kind-agrees}
-use Rattle.changes.proofs.RulesParts.{place-in, push-in}
+use Rattle.changes.proofs.RulesParts.{place-in, place-told, push-in}
 
--- the rules' work as a struct, over the tracked list ps
-abbrev pub workOf : List Peer → Work → C.Work
-workOf ps v = workIn (configurationOf (v .conf)) (changeLogOf (v .log)) (length (pending (v .log) (ids ps)))
+-- the rules' work as a struct, over the tracked list ps, when i entries did nothing
+abbrev pub workOf : List Peer → ℕ → Work → C.Work
+workOf ps i v = workIn (configurationOf (v .conf)) (changeLogOf (v .log)) (length (pending (v .log) (ids ps))) i
 
--- what the rules answer to a change of v, as a struct
-abbrev pub doneOf : List Peer → Work → Done → C.Work
-doneOf ps v (done u) = workOf ps u
-doneOf ps v (full y) = fullIn y (workOf ps v)
+-- what the rules answer to a change of v, as a struct; i entries did nothing before it, and then j
+abbrev pub doneOf : List Peer → Work → ℕ → ℕ → Done → C.Work
+doneOf ps v i j (done u) = workOf ps j u
+doneOf ps v i j (full y) = fullIn y (workOf ps i v)
 
-pub start-in : (ps : List Peer) (c : Conf) → workOf ps (start c) ≡ workIn (configurationOf c) (changeLogOf []) (length (ids ps))
+pub start-in : (ps : List Peer) (c : Conf) → workOf ps 0 (start c) ≡ workIn (configurationOf c) (changeLogOf []) (length (ids ps)) 0
 unfolding pending
 start-in ps c = refl
 
@@ -91,31 +93,64 @@ fine-sets {r} {ps} {up} {v} f =
     quiet true = refl
     quiet false = refl
 
-module _ {r : Progress} {ps : List Peer} {up : ascending (ids ps) ≡ true} {v : Work} (f : Fine r ps up v) (short : length (v .log) < 256) (x : ℕ) where
+-- ** The count
+
+one-more : (i : ℕ) → i < 256 → oneMore i ≡ suc i
+one-more i h = rw (lt-ltb i 256 h) (omega arith)
+
+-- an entry that logs nothing
+idle-after : (b : Bool) (i : ℕ) → i < 256 → idleAfter b i ≡ oneMoreIf (not b && true) i
+idle-after true i h = refl
+idle-after false i h = one-more i h
+
+-- one that logs is not idle
+never : (b : Bool) → b && false ≡ false
+never true = refl
+never false = refl
+
+more-add : (b : Bool) (i n : ℕ) → oneMoreIf b i + n ≡ i + oneMoreIf b n
+more-add true i n = omega arith
+more-add false i n = refl
+
+more-fits : (b : Bool) (i n : ℕ) → i + suc n ≤ 256 → oneMoreIf b i + n ≤ 256
+more-fits true i n h = omega arith
+more-fits false i n h = omega arith
+
+module _ {r : Progress} {ps : List Peer} {up : ascending (ids ps) ≡ true} {v : Work} (f : Fine r ps up v) (short : length (v .log) < 256) (i : ℕ) (room : i < 256) (x : ℕ) where
   -- the tracked ids at its turn
   abbrev tracked : List ℕ
   tracked = pending (v .log) (ids ps)
 
-  entry-in : (e : Entry) (n : Standing) (t : ℕ) → Sets (place x (standingNamed n) (v .conf)) → t ≡ length (pending (e ∷ []) tracked)
-      → workIn (placeIn x n (configurationOf (v .conf))) (pushIn (mapChangeOf e .id) (mapChangeOf e .kind) (changeLogOf (v .log))) t
-      ≡ workOf ps (record { conf = place x (standingNamed n) (v .conf); log = v .log ++ (e ∷ []) })
-  entry-in e n t s q = rw (place-in x n (v .conf) (fine-sets f) s, push-in e (v .log) short, pending-append (v .log) (e ∷ []) (ids ps), q)
+  -- where it is at its turn
+  abbrev there : Places
+  there = spot (v .conf) (now r ps up v) x
+
+  -- how many entries did nothing after one that comes to n and logs e
+  abbrev idleThen : Standing → Effect → ℕ
+  idleThen n e = oneMoreIf (not (anyTold (standingNamed n) there) && logsNothing (effectNamed e)) i
+
+  entry-in : (e : Entry) (n : Standing) (t j : ℕ) → Sets (place x (standingNamed n) (v .conf)) → t ≡ length (pending (e ∷ []) tracked)
+      → workIn (placeIn x n (configurationOf (v .conf))) (pushIn (mapChangeOf e .id) (mapChangeOf e .kind) (changeLogOf (v .log))) t j
+      ≡ workOf ps j (record { conf = place x (standingNamed n) (v .conf); log = v .log ++ (e ∷ []) })
+  entry-in e n t j s q = rw (place-in x n (v .conf) (fine-sets f) s, push-in e (v .log) short, pending-append (v .log) (e ∷ []) (ids ps), q)
 
   effect-in : (e : Effect) (n : Standing) → fits (effectNamed e) (memb x tracked) ≡ true
       → ((u : Work) → logged (effectNamed e) (ids ps) x (place x (standingNamed n) (v .conf)) (v .log) ≡ done u → Sets (u .conf))
-      → byEffect e x (placeIn x n (configurationOf (v .conf))) (workOf ps v) ≡ doneOf ps v (logged (effectNamed e) (ids ps) x (place x (standingNamed n) (v .conf)) (v .log))
+      → byEffect e x (placeIn x n (configurationOf (v .conf))) (anyChangedIn x n (configurationOf (v .conf))) (workOf ps i v)
+      ≡ doneOf ps v i (idleThen n e) (logged (effectNamed e) (ids ps) x (place x (standingNamed n) (v .conf)) (v .log))
   unfolding pending
-  effect-in Stays n h g = rw (place-in x n (v .conf) (fine-sets f) (g _ refl))
-  effect-in Adds n h g = go (leb 64 (length tracked)) g
+  effect-in Stays n h g =
+      rw (place-told (memb x (ids (now r ps up v))) x n (v .conf) (fine-sets f) (g _ refl), idle-after (anyTold (standingNamed n) there) i room, place-in x n (v .conf) (fine-sets f) (g _ refl))
+  effect-in Adds n h g = rw (never (not (anyTold (standingNamed n) there))) (go (leb 64 (length tracked)) g)
     where
       u : Work
       u = record { conf = place x (standingNamed n) (v .conf); log = v .log ++ (add x ∷ []) }
 
       go : (b : Bool) → ((w : Work) → cond b (full x) (done u) ≡ done w → Sets (w .conf))
-          → cond b (fullIn x (workOf ps v)) (workIn (placeIn x n (configurationOf (v .conf))) (pushIn x Add (changeLogOf (v .log))) (length tracked + 1)) ≡ doneOf ps v (cond b (full x) (done u))
+          → cond b (fullIn x (workOf ps i v)) (workIn (placeIn x n (configurationOf (v .conf))) (pushIn x Add (changeLogOf (v .log))) (length tracked + 1) i) ≡ doneOf ps v i i (cond b (full x) (done u))
       go true g = refl
-      go false g = entry-in (add x) n (length tracked + 1) (g u refl) (sym (length-insert x tracked (not-true (memb x tracked) h)))
-  effect-in Removes n h g = entry-in (remove x) n (length tracked - 1) (g _ refl) (omega (arith, length-remove x tracked h))
+      go false g = entry-in (add x) n (length tracked + 1) i (g u refl) (sym (length-insert x tracked (not-true (memb x tracked) h)))
+  effect-in Removes n h g = rw (never (not (anyTold (standingNamed n) there))) (entry-in (remove x) n (length tracked - 1) i (g _ refl) (omega (arith, length-remove x tracked h)))
 
   -- where x stands
   abbrev at : Standing
@@ -143,38 +178,57 @@ module _ {r : Progress} {ps : List Peer} {up : ascending (ids ps) ≡ true} {v :
     unfolding change
     change-moves e = rw (e, move-agrees)
 
-    pub change-in : changeIn (ids ps) x k (workOf ps v) ≡ doneOf ps v (change (ids ps) c v)
+    -- idle by the table: no set changes and nothing is logged
+    idle-agrees : eqb x 0 ≡ false → oneMoreIf (isIdle (ids ps) c v) i ≡ idleThen (moveOf at k .next) (moveOf at k .effect)
+    idle-agrees e = rw (e, idle-told r ps up c v f, move-agrees)
+
+    pub change-in : changeIn (ids ps) x k (workOf ps i v) ≡ doneOf ps v i (oneMoreIf (isIdle (ids ps) c v) i) (change (ids ps) c v)
     unfolding changeIn change
     change-in = rw at-in (go (eqb x 0) refl)
       where
-        go : (b : Bool) → eqb x 0 ≡ b → cond b (workOf ps v) (movedIn x (moveOf at k) (workOf ps v)) ≡ doneOf ps v (change (ids ps) c v)
-        go true e = rw e
-        go false e = rw (change-moves e) (effect-in (moveOf at k .effect) (moveOf at k .next) move-fits (λ u h. fine-sets (change-done r ps up c v u (change-moves e ∙ h) f .fine)))
+        go : (b : Bool) → eqb x 0 ≡ b
+            → cond b (skippedIn (workOf ps i v)) (movedIn x (moveOf at k) (workOf ps i v)) ≡ doneOf ps v i (oneMoreIf (isIdle (ids ps) c v) i) (change (ids ps) c v)
+        go true e = rw (e, one-more i room)
+        go false e =
+            rw (idle-agrees e, change-moves e)
+            (effect-in (moveOf at k .effect) (moveOf at k .next) move-fits (λ u h. fine-sets (change-done r ps up c v u (change-moves e ∙ h) f .fine)))
 
 -- ** A list of changes
 
--- the list was carried out, or stopped at y
-abbrev pub Told : List Peer → Done → C.Work → Type 0
-Told ps (done u) w = w ≡ workOf ps u
-Told ps (full y) w = (w .full ≡ true) × (w .id ≡ y)
+-- the list was carried out, and j entries did nothing; or it stopped at y
+abbrev pub Told : List Peer → Done → ℕ → C.Work → Type 0
+Told ps (done u) j w = w ≡ workOf ps j u
+Told ps (full y) j w = (w .full ≡ true) × (w .id ≡ y)
+
+none-more : (ps : List Peer) (v : Work) (i : ℕ) → workOf ps i v ≡ workOf ps (i + 0) v
+none-more ps v i = ap (λ (n : ℕ). workOf ps n v) (omega arith)
 
 module _ {r : Progress} {ps : List Peer} {up : ascending (ids ps) ≡ true} where
-  told : {v : Work} → Fine r ps up v → (xs ks : List ℕ) → length (v .log) + length xs ≤ 256 → Told ps (changes (ids ps) (listOf xs ks) v) (changesIn (ids ps) xs ks (workOf ps v))
-  unfolding changes changesIn listOf
-  told f [] ks h = refl
-  told f (x ∷ xs) [] h = refl
-  told {v} f (x ∷ xs) (k ∷ ks) h =
-      rw (change-in f (omega arith) x (kindIn k), ← kind-agrees k) (go (change (ids ps) c v) refl (λ u g. told g xs ks))
+  told : {v : Work} → Fine r ps up v → (xs ks : List ℕ) (i : ℕ) → length (v .log) + length xs ≤ 256 → i + length xs ≤ 256
+      → Told ps (changes (ids ps) (listOf xs ks) v) (i + idles (ids ps) (listOf xs ks) v) (changesIn (ids ps) xs ks (workOf ps i v))
+  unfolding changes changesIn listOf countOf
+  told {v} f [] ks i h l = none-more ps v i
+  told {v} f (x ∷ xs) [] i h l = none-more ps v i
+  told {v} f (x ∷ xs) (k ∷ ks) i h l =
+      rw (change-in f (omega arith) i (omega arith) x (kindIn k), ← kind-agrees k) (go (change (ids ps) c v) refl (λ u g. told g xs ks j))
     where
       c : Change
       c = record { kind = kindNamed (kindIn k); id = x }
 
+      j : ℕ
+      j = oneMoreIf (isIdle (ids ps) c v) i
+
       go : (d : Done) → change (ids ps) c v ≡ d
-          → ((u : Work) → Fine r ps up u → length (u .log) + length xs ≤ 256 → Told ps (changes (ids ps) (listOf xs ks) u) (changesIn (ids ps) xs ks (workOf ps u)))
-          → Told ps (andThen d (λ u. changes (ids ps) (listOf xs ks) u)) (cond (doneOf ps v d .full) (doneOf ps v d) (changesIn (ids ps) xs ks (doneOf ps v d)))
-      go (done u) e ih = let a : After r ps up (c ∷ []) v u = change-done r ps up c v u e f in ih u (a .fine) (omega (arith, a .short))
+          → ((u : Work) → Fine r ps up u → length (u .log) + length xs ≤ 256 → j + length xs ≤ 256 → Told ps (changes (ids ps) (listOf xs ks) u) (j + idles (ids ps) (listOf xs ks) u) (changesIn (ids ps) xs ks (workOf ps j u)))
+          → Told ps (andThen d (λ u. changes (ids ps) (listOf xs ks) u)) (i + whenDone d (λ u. oneMoreIf (isIdle (ids ps) c v) (idles (ids ps) (listOf xs ks) u)))
+          (cond (doneOf ps v i j d .full) (doneOf ps v i j d) (changesIn (ids ps) xs ks (doneOf ps v i j d)))
+      go (done u) e ih =
+          let a : After r ps up (c ∷ []) v u = change-done r ps up c v u e f in
+          rw (← more-add (isIdle (ids ps) c v) i (idles (ids ps) (listOf xs ks) u)) (ih u (a .fine) (omega (arith, a .short)) (more-fits (isIdle (ids ps) c v) i (length xs) l))
       go (full y) e ih = (refl, refl)
 
   pub changes-in : {v : Work} → Fine r ps up v → (xs ks : List ℕ) → length (v .log) + length xs ≤ 256
-      → (d : Done) → changes (ids ps) (listOf xs ks) v ≡ d → Told ps d (changesIn (ids ps) xs ks (workOf ps v))
-  changes-in f xs ks h d e = rw (← e) (told f xs ks h)
+      → (d : Done) → changes (ids ps) (listOf xs ks) v ≡ d → Told ps d (idles (ids ps) (listOf xs ks) v) (changesIn (ids ps) xs ks (workOf ps 0 v))
+  changes-in {v} f xs ks h d e =
+      let z : 0 + idles (ids ps) (listOf xs ks) v ≡ idles (ids ps) (listOf xs ks) v = omega arith in
+      rw (← e) (rw z at (told f xs ks 0 h (omega arith)))

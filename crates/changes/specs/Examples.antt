@@ -26,32 +26,48 @@ use Rattle.changes.specs.Pending.{trackedIn}
 use Rattle.changes.specs.Table.{moveOf, kindIn, rowOf, incomingAt, learnerAt, stagedAt}
 use Rattle.changes.specs.Change.{pushIn, workIn, fullIn, changeIn, changesIn}
 
--- incoming and learners as given, this log, n tracked
-abbrev work : List ℕ → List ℕ → List Entry → ℕ → Work
-work i l es n = workIn (configurationOf (conf i [] l [])) (changeLogOf es) n
+-- incoming and learners as given, this log, n tracked; m entries did nothing
+abbrev work : List ℕ → List ℕ → List Entry → ℕ → ℕ → Work
+work i l es n m = workIn (configurationOf (conf i [] l [])) (changeLogOf es) n m
 
 -- voters (1), with 1 tracked or with no room
 abbrev w1 : Work
-w1 = work (1 ∷ []) [] [] 1
+w1 = work (1 ∷ []) [] [] 1 0
 
 abbrev w64 : Work
-w64 = work (1 ∷ []) [] [] 64
+w64 = work (1 ∷ []) [] [] 64 0
 
 pub listed :
     -- `apply` that passes over an entry; that takes the last first
-    (changesIn (1 ∷ []) (2 ∷ 3 ∷ []) (0 ∷ 2 ∷ []) w1 ≡ work (1 ∷ 2 ∷ []) (3 ∷ []) (add 2 ∷ add 3 ∷ []) 3)
+    (changesIn (1 ∷ []) (2 ∷ 3 ∷ []) (0 ∷ 2 ∷ []) w1 ≡ work (1 ∷ 2 ∷ []) (3 ∷ []) (add 2 ∷ add 3 ∷ []) 3 0)
     -- `apply` that goes on after a 16: then 1 is removed
     × (changesIn (1 ∷ []) (2 ∷ 1 ∷ []) (0 ∷ 1 ∷ []) w64 ≡ fullIn 2 w64)
-    -- `change` that carries id 0 out
-    × (changeIn (1 ∷ []) 0 AddNode w1 ≡ w1)
+    -- `change` that carries id 0 out; that does not count it
+    × (changeIn (1 ∷ []) 0 AddNode w1 ≡ work (1 ∷ []) [] [] 1 1)
     -- `change` that logs an Add as a Remove
-    × (changeIn (1 ∷ []) 2 AddNode w1 ≡ work (1 ∷ 2 ∷ []) [] (add 2 ∷ []) 2)
+    × (changeIn (1 ∷ []) 2 AddNode w1 ≡ work (1 ∷ 2 ∷ []) [] (add 2 ∷ []) 2 0)
     -- `change` that lets a 65th in
     × (changeIn (1 ∷ []) 2 AddLearnerNode w64 ≡ fullIn 2 w64)
     -- `change` that frees no room
-    × (changeIn (1 ∷ []) 1 RemoveNode w64 ≡ work [] [] (remove 1 ∷ []) 63)
+    × (changeIn (1 ∷ []) 1 RemoveNode w64 ≡ work [] [] (remove 1 ∷ []) 63 0)
 unfolding changesIn changeIn pushIn moveOf insertOf removeOf insertAt removeAt rank placeOf memb lastSays setOf changeLogOf mapChangesOf entriesOf
 listed = (refl, refl, refl, refl, refl, refl)
+
+-- voters (1 2) of outgoing, 2 staged
+abbrev staged : Work
+staged = workIn (configurationOf (conf (1 ∷ []) (1 ∷ 2 ∷ []) [] (2 ∷ []))) (changeLogOf []) 2 0
+
+pub counted :
+    -- counts entries that are not logged: 1 becomes a learner, and then is one
+    (changesIn (1 ∷ []) (1 ∷ 1 ∷ []) (2 ∷ 2 ∷ []) w1 ≡ work [] (1 ∷ []) [] 1 1)
+    -- asks whether any set changed: 3 is tracked only, and is logged
+    × (changeIn (1 ∷ 3 ∷ []) 3 RemoveNode w1 ≡ work (1 ∷ []) [] (remove 3 ∷ []) 0 0)
+    -- takes a staged id out and puts it back, and counts that as a change
+    × (changeIn (1 ∷ 2 ∷ []) 2 AddLearnerNode staged .idle ≡ 1)
+    -- counts a removal that has nothing to remove as a change
+    × (changeIn (1 ∷ []) 9 RemoveNode w1 .idle ≡ 1)
+unfolding changesIn changeIn pushIn moveOf insertOf removeOf insertAt removeAt rank placeOf memb lastSays setOf changeLogOf mapChangesOf entriesOf
+counted = (refl, refl, refl, refl)
 
 -- a log whose places are all taken
 abbrev taken : ChangeLog

@@ -6,19 +6,34 @@ use tracker::Configuration;
 use tracker::MapChange;
 use tracker::MapChangeType;
 ghost use mathlib.Core.Path.{_≡_};
+ghost use mathlib.Core.Bool.{_||_};
 ghost use Prim.Native.Nat.{_-_};
-ghost use Rattle.changes.specs.Change.{standsIn, putIn, placeIn, pushIn, workIn, movedIn, changeIn, changesIn};
+ghost use Rattle.changes.specs.Change.{standsIn, putIn, changedIn, placeIn, anyChangedIn, oneMore, idleAfter, pushIn, workIn, movedIn, changeIn, changesIn};
 
 pub mod pending; // IncrChangeMap
 pub mod table; // the table of standings
 
-// The configuration and the log as far as a list is carried out, how many ids are then tracked, and the id for which there was no room.
+// The configuration and the log as far as a list is carried out, how many ids are then tracked, how many entries did nothing, and the id for which
+// there was no room.
 pub struct Work {
     pub conf: Configuration,
     pub log: ChangeLog,
     pub tracked: usize,
+    pub idle: usize,
     pub full: bool,
     pub id: u64,
+}
+
+// A set after an id was put into it or taken from it, and whether it changed.
+pub struct Altered {
+    pub set: IdSet,
+    pub changed: bool,
+}
+
+// A configuration after an id came to its standing, and whether one of its sets changed.
+pub struct Placed {
+    pub conf: Configuration,
+    pub changed: bool,
 }
 
 // Applies a change list to the configuration; it stops at the first id for which there is no room. By convention, changes to voters are
@@ -41,12 +56,14 @@ pub fn apply<'a>(w: Work, base: &'a [u64], ids: &'a [u64], kinds: &'a [u8]) -> W
     v
 }
 
-// One change, by the table. One with id 0 is skipped.
+// One change, by the table. One with id 0 is skipped: it did nothing.
 pub fn change(w: Work, base: &[u64], id: u64, kind: table::Kind) -> Work
     ensures { λ r. ⌜ r ≡ changeIn (now (base .entry)) id kind w ⌝ }
 {
     if id == 0 {
-        return w;
+        let mut skipped = w;
+        skipped.idle = one_more(w.idle);
+        return skipped;
     }
     let log = w.log;
     let tracked = pending::is_tracked(base, log.count, log, id);
@@ -68,51 +85,66 @@ fn standing(conf: Configuration, tracked: bool, id: u64) -> table::Standing
     )
 }
 
-// `id` comes to its new standing, and is logged as the table says; no room where 64 are tracked.
+// `id` comes to its new standing, and is logged as the table says; no room where 64 are tracked. A change that alters no set and logs nothing is
+// counted.
 fn moved(w: Work, id: u64, to: table::Move) -> Work
     ensures { λ r. ⌜ r ≡ movedIn id to w ⌝ }
 {
-    let conf = w.conf;
     let log = w.log;
     let n = w.tracked;
-    let next = to.next;
+    let idle = w.idle;
     let effect = to.effect;
+    let next = to.next;
+    let placed = place(w.conf, id, next);
+    let conf = placed.conf;
     match effect {
-        table::Effect::Stays => done(place(conf, id, next), log, n),
+        table::Effect::Stays => done(conf, log, n, idle_after(idle, placed.changed)),
         table::Effect::Adds => {
             if 64 <= n {
-                return Work {
-                    conf,
-                    log,
-                    tracked: n,
-                    full: true,
-                    id,
-                };
+                let mut full = w;
+                full.full = true;
+                full.id = id;
+                return full;
             }
-            done(
-                place(conf, id, next),
-                push(log, id, MapChangeType::Add),
-                n + 1,
-            )
+            done(conf, push(log, id, MapChangeType::Add), n + 1, idle)
         }
         table::Effect::Removes => done(
-            place(conf, id, next),
+            conf,
             push(log, id, MapChangeType::Remove),
             less(n),
+            idle,
         ),
     }
 }
 
-fn done(conf: Configuration, log: ChangeLog, tracked: usize) -> Work
-    ensures { λ r. ⌜ r ≡ workIn conf log tracked ⌝ }
+fn done(conf: Configuration, log: ChangeLog, tracked: usize, idle: usize) -> Work
+    ensures { λ r. ⌜ r ≡ workIn conf log tracked idle ⌝ }
 {
     Work {
         conf,
         log,
         tracked,
+        idle,
         full: false,
         id: 0,
     }
+}
+
+// How many did nothing after an entry that logs nothing; `changed` tells whether a set changed.
+fn idle_after(n: usize, changed: bool) -> usize
+    ensures { λ r. ⌜ r ≡ idleAfter changed n ⌝ }
+{
+    if changed {
+        return n;
+    }
+    one_more(n)
+}
+
+// One more, as far as a list can be long.
+fn one_more(n: usize) -> usize
+    ensures { λ r. ⌜ r ≡ oneMore n ⌝ }
+{
+    if n < ChangeLog::CAPACITY { n + 1 } else { n }
 }
 
 fn less(n: usize) -> usize
@@ -122,30 +154,61 @@ fn less(n: usize) -> usize
 }
 
 // `id` comes to the standing `to` in each set; no change touches outgoing.
-fn place(conf: Configuration, id: u64, to: table::Standing) -> Configuration
-    ensures { λ r. ⌜ r ≡ placeIn id to conf ⌝ }
+fn place(conf: Configuration, id: u64, to: table::Standing) -> Placed
+    ensures { λ r. ⌜ r ≡ record { conf = placeIn id to conf; changed = anyChangedIn id to conf } ⌝ }
 {
     let outgoing = conf.outgoing;
     let auto_leave = conf.auto_leave;
-    Configuration {
-        incoming: put(conf.incoming, id, table::is_incoming(to)),
+    let voters = put(conf.incoming, id, table::is_incoming(to));
+    let others = put(conf.learners, id, table::is_learner(to));
+    let staged = put(conf.learners_next, id, table::is_staged(to));
+    let incoming = voters.set;
+    let learners = others.set;
+    let learners_next = staged.set;
+    let placed = Configuration {
+        incoming,
         outgoing,
-        learners: put(conf.learners, id, table::is_learner(to)),
-        learners_next: put(conf.learners_next, id, table::is_staged(to)),
+        learners,
+        learners_next,
         auto_leave,
+    };
+    let changed = any(voters.changed, others.changed, staged.changed);
+    Placed {
+        conf: placed,
+        changed,
     }
 }
 
+fn any(a: bool, b: bool, c: bool) -> bool
+    ensures { λ r. ⌜ r ≡ a || b || c ⌝ }
+{
+    if a {
+        return true;
+    }
+    if b {
+        return true;
+    }
+    c
+}
+
 // The set with `id`, or without it.
-fn put(set: IdSet, id: u64, with: bool) -> IdSet
-    ensures { λ r. ⌜ r ≡ putIn with id set ⌝ }
+fn put(set: IdSet, id: u64, with: bool) -> Altered
+    ensures { λ r. ⌜ r ≡ record { set = putIn with id set; changed = changedIn with id set } ⌝ }
 {
     if with {
         let grown = set.insert(id);
-        return grown.set;
+        let more = grown.set;
+        return Altered {
+            set: more,
+            changed: grown.changed,
+        };
     }
-    let less = set.remove(id);
-    less.set
+    let shrunk = set.remove(id);
+    let less = shrunk.set;
+    Altered {
+        set: less,
+        changed: shrunk.changed,
+    }
 }
 
 // The log with one entry more; a full log stays as it is.

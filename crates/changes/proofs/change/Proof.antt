@@ -5,9 +5,12 @@ use Rattle.changes.specs.Change.{changeIn}
 use Rattle.changes.proofs.change.Statement.{statement}
 use Rattle.changes.proofs.change.Tie as tie
 
+one-more-requires : tie.Need-one-more-requires
+one-more-requires c κs = search needs
+
 returns : tie.Need-returns
 unfolding changeIn
-returns c = rw (eq-eqb _ 0 (c .if1 .taken))
+returns c = rw (eq-eqb _ 0 (c .before .if1 .taken), c .one-more .ensures)
 
 is-tracked-requires : tie.Need-is-tracked-requires
 is-tracked-requires c κs = search needs
@@ -31,6 +34,7 @@ pub change-spec : {M : Type 1} → statement M
 change-spec =
     tie.close
     (tie.spec
+    one-more-requires
     returns
     is-tracked-requires
     standing-requires

@@ -21,8 +21,23 @@ is-staged-requires c κs = search needs
 put-requires-3 : tie.Need-put-requires-3
 put-requires-3 c κs = search needs
 
+any-requires : tie.Need-any-requires
+any-requires c κs = search needs
+
 returns : tie.Need-returns
-returns c = cc
+returns c =
+    let staged = c .before .before .before .before in
+    let others = staged .before .before in
+    let voters = others .before .before in
+    rw (
+      c .any .ensures,
+      staged .put3 .ensures,
+      staged .before .is-staged .ensures,
+      others .put2 .ensures,
+      others .before .is-learner .ensures,
+      voters .put .ensures,
+      voters .before .is-incoming .ensures,
+    )
 
 pub place-spec : {M : Type 1} → statement M
 place-spec =
@@ -34,4 +49,5 @@ place-spec =
     put-requires-2
     is-staged-requires
     put-requires-3
+    any-requires
     returns)

@@ -1,4 +1,4 @@
--- `changes::put` meets its contract. Assumes nothing.
+-- `changes::put` meets its contract: what the set's own operation answers. Assumes nothing.
 use borrow.Author.Needs.{needs}
 use Rattle.changes.proofs.put.Statement.{statement}
 use Rattle.changes.proofs.put.Tie as tie
