@@ -65,7 +65,7 @@ module _ (s : State) (w : Whole s) (k : check (isTracked s) (s .conf) ≡ ok) wh
       (union-formed (setOf (c .staged)) (setOf (c .learners)) (ids-set (c .staged) (w .sets .staged)) (ids-set (c .learners) (w .sets .learners)) (rw (a, b) (joined .few)))
       ∙ rw (a, b)
 
-  leaving-in : leavingIn (configurationOf c) ≡ acceptedIn (configurationOf (leaving c)) (changeLogOf (removals (gone c)))
+  leaving-in : leavingIn (configurationOf c) ≡ acceptedIn (configurationOf (leaving c)) (changeLogOf (removals (gone c))) 0
   leaving-in =
       rw (
         learners-in,
@@ -76,7 +76,7 @@ module _ (s : State) (w : Whole s) (k : check (isTracked s) (s .conf) ≡ ok) wh
       )
 
   pub leave-on : (tracked : IdSet) → tracked ≡ setOf (ids (s .peers)) → (given : Configuration) → given ≡ configurationOf c
-      → againIn tracked given (leavingIn given) ≡ answerOf given (check (pendingTracked (ids (s .peers)) (removals (gone c))) (leaving c) ⇒ accepted (leaving c) (removals (gone c)))
+      → againIn tracked given (leavingIn given) ≡ answerOf given 0 (check (pendingTracked (ids (s .peers)) (removals (gone c))) (leaving c) ⇒ accepted (leaving c) (removals (gone c)))
   leave-on tracked m given e =
       ap (againIn tracked given) (ap leavingIn e ∙ leaving-in)
-      ∙ again-same tracked (ids (s .peers)) m (w .tracked) (leaving c) (of-sets (leaving c) leaving-sets) (removals (gone c)) leaving-short (room-removals (gone c) (ids (s .peers))) given
+      ∙ again-same tracked (ids (s .peers)) m (w .tracked) (leaving c) (of-sets (leaving c) leaving-sets) (removals (gone c)) leaving-short (room-removals (gone c) (ids (s .peers))) given 0

@@ -43,7 +43,7 @@ module _ (s : IdSet) (sized : length (s .ids) ≡ 64) {n : ℕ} (e : n ≡ min (
 
   -- ** What the list came to
 
-  module _ (c : Configuration) (xs ks : List ℕ) {log : ChangeLog} (g : log ≡ changeLogOf []) {w : Work} (f : w ≡ changesIn (take n (s .ids)) xs ks (workIn c log n)) where
+  module _ (c : Configuration) (xs ks : List ℕ) {log : ChangeLog} (g : log ≡ changeLogOf []) {w : Work} (f : w ≡ changesIn (take n (s .ids)) xs ks (workIn c log n 0)) where
     carried : carriedIn s c xs ks ≡ afterList c w
     carried = rw (f, base-held, g, e)
 
@@ -54,5 +54,5 @@ module _ (s : IdSet) (sized : length (s .ids) ≡ 64) {n : ℕ} (e : n ≡ min (
       pub carried-none : b ≡ true → {r : Answer} → r ≡ refusedIn c 17 0 → r ≡ carriedIn s c xs ks
       carried-none t k = k ∙ sym (carried ∙ rw (h, ← q, t))
 
-      pub carried-well : b ≡ false → {r : Answer} → r ≡ acceptedIn (w .conf) (w .log) → r ≡ carriedIn s c xs ks
+      pub carried-well : b ≡ false → {r : Answer} → r ≡ acceptedIn (w .conf) (w .log) (w .idle) → r ≡ carriedIn s c xs ks
       carried-well t k = k ∙ sym (carried ∙ rw (h, ← q, t))

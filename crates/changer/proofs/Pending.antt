@@ -85,8 +85,8 @@ module _ (tracked : IdSet) (base : List ℕ) (e : tracked ≡ setOf base) (s : S
       rw (log-back log short, e, pending-in log base s fits, held-set (pending log base) (u .few), conf-back k f, says)
       (walk-checks (pending log base) k (u .rises) f)
 
-  pub again-same : (given : Configuration) → againIn tracked given (acceptedIn (configurationOf k) (changeLogOf log)) ≡ answerOf given (check (pendingTracked base log) k ⇒ accepted k log)
-  again-same given =
-      given-same given (checkWalk (held (pendingIn (logOf (changeLogOf log)) tracked)) (confOf (configurationOf k))) (acceptedIn (configurationOf k) (changeLogOf log)) (accepted k log)
+  pub again-same : (given : Configuration) (i : ℕ) → againIn tracked given (acceptedIn (configurationOf k) (changeLogOf log) i) ≡ answerOf given i (check (pendingTracked base log) k ⇒ accepted k log)
+  again-same given i =
+      given-same given i (checkWalk (held (pendingIn (logOf (changeLogOf log)) tracked)) (confOf (configurationOf k))) (acceptedIn (configurationOf k) (changeLogOf log) i) (accepted k log)
       (check-numbered (held (pendingIn (logOf (changeLogOf log)) tracked)) (confOf (configurationOf k))) (λ p. refl)
-      ∙ ap (λ (v : Verdict). answerOf given (v ⇒ accepted k log)) again-walk
+      ∙ ap (λ (v : Verdict). answerOf given i (v ⇒ accepted k log)) again-walk

@@ -8,7 +8,8 @@ use Rattle.rules.specs.State.{State, formed, ids}
 use Rattle.rules.specs.Answers as rules
 use Rattle.rules.specs.Answers.{Verdict, ok, refuse, _▸_, _⇒_}
 use Rattle.rules.specs.Check.{check, isTracked, joint}
-use Rattle.rules.specs.Calls.{enterJoint, enterOf, leaveJoint, leaveOf, readable, simple, simpleOf}
+use Rattle.rules.specs.Calls.{enterJoint, enterOf, entering, leaveJoint, leaveOf, listOf, readable, simple, simpleOf, start}
+use Rattle.rules.specs.Idle.{enterIdles, idles, simpleIdles}
 use Rattle.rules.proofs.Applied.{checked-of}
 use Rattle.rules.proofs.Check.{refuse-ok, then-left, then-right}
 use Rattle.rules.proofs.Formed.{Whole, whole-of}
@@ -25,7 +26,7 @@ use Rattle.invariants.proofs.Parts.{check-numbered}
 use Rattle.changer.specs.Calls.{enterAnswer, ifFormed, leaveAnswer, simpleAnswer}
 use Rattle.changer.specs.Before.{ownCheck}
 use Rattle.changer.specs.Stages.{enterIn, leaveIn, simpleIn}
-use Rattle.changer.proofs.Verdicts.{read-few, readable-numbered, tested-same, tests-first, then-given}
+use Rattle.changer.proofs.Verdicts.{count-same, read-few, readable-numbered, tested-same, tests-first, then-given}
 use Rattle.changer.proofs.Changed.{enter-on, simple-on}
 use Rattle.changer.proofs.Left.{leave-on}
 
@@ -66,22 +67,23 @@ module _ (t : Tracker) where
   voters = refuse (isEmpty (s .conf .incoming)) 15 0
 
   pub simple-same : (ids kinds : List ℕ) → simpleIn t ids kinds ≡ simpleAnswer t ids kinds
-  unfolding simpleIn simpleAnswer simple simpleOf
+  unfolding simpleIn simpleAnswer simpleIdles simple simpleOf
   simple-same xs ks =
       let reads : Verdict = readable xs ks in
-      tested-same t (reads ▸ single 6 ▸ ownCheck t) (reads ▸ single 6 ▸ checks) _ _
+      tested-same t (idles (ids (s .peers)) (listOf xs ks) (start (s .conf))) (reads ▸ single 6 ▸ ownCheck t) (reads ▸ single 6 ▸ checks) _ _
       (numbered-then reads (single 6 ▸ ownCheck t) (readable-numbered xs ks) (numbered-then (single 6) (ownCheck t) (numbered-refuse (joint (s .conf)) 6 0 refl) own-numbered))
       (λ w. ap (λ (v : Verdict). reads ▸ single 6 ▸ v) (own-check w))
       (λ w p.
       let q : single 6 ▸ checks ≡ ok = then-right reads (single 6 ▸ checks) p in
       simple-on s (checked w (then-right (single 6) checks q)) (t .ids) (same-tracked w) (t .conf) (same-conf w) xs ks (read-few xs ks (then-left reads (single 6 ▸ checks) p)) (whole w .sets))
-      ∙ ap (ifFormed t) (tests-first (refuse (not (formed s)) 1 0) reads (single 6 ▸ checks) _)
+      ∙ ap (ifFormed t _) (tests-first (refuse (not (formed s)) 1 0) reads (single 6 ▸ checks) _)
+      ∙ count-same t (idles (ids (s .peers)) (listOf xs ks) (start (s .conf))) (simple s xs ks)
 
   pub enter-same : (auto : Bool) (ids kinds : List ℕ) → enterIn t auto ids kinds ≡ enterAnswer t auto ids kinds
-  unfolding enterIn enterAnswer enterJoint enterOf
+  unfolding enterIn enterAnswer enterIdles enterJoint enterOf
   enter-same auto xs ks =
       let reads : Verdict = readable xs ks in
-      tested-same t (reads ▸ single 4 ▸ ownCheck t ▸ voters) (reads ▸ single 4 ▸ checks ▸ voters) _ _
+      tested-same t (idles (ids (s .peers)) (listOf xs ks) (start (entering (s .conf)))) (reads ▸ single 4 ▸ ownCheck t ▸ voters) (reads ▸ single 4 ▸ checks ▸ voters) _ _
       (numbered-then reads (single 4 ▸ ownCheck t ▸ voters) (readable-numbered xs ks)
       (numbered-then (single 4) (ownCheck t ▸ voters) (numbered-refuse (joint (s .conf)) 4 0 refl)
       (numbered-then (ownCheck t) voters own-numbered (numbered-refuse (isEmpty (s .conf .incoming)) 15 0 refl))))
@@ -91,15 +93,16 @@ module _ (t : Tracker) where
       let k : checks ≡ ok = then-left checks voters (then-right (single 4) (checks ▸ voters) q) in
       let j : joint (s .conf) ≡ false = refuse-ok (joint (s .conf)) 4 0 (then-left (single 4) (checks ▸ voters) q) in
       enter-on s (checked w k) (t .ids) (same-tracked w) (t .conf) (same-conf w) xs ks (read-few xs ks (then-left reads (single 4 ▸ checks ▸ voters) p)) j auto)
-      ∙ ap (ifFormed t) (tests-first (refuse (not (formed s)) 1 0) reads (single 4 ▸ checks ▸ voters) _)
+      ∙ ap (ifFormed t _) (tests-first (refuse (not (formed s)) 1 0) reads (single 4 ▸ checks ▸ voters) _)
+      ∙ count-same t (idles (ids (s .peers)) (listOf xs ks) (start (entering (s .conf)))) (enterJoint s auto xs ks)
 
   pub leave-same : leaveIn t ≡ leaveAnswer t
   unfolding leaveIn leaveAnswer leaveJoint leaveOf
   leave-same =
       let jointly : Verdict = refuse (not (joint (s .conf))) 5 0 in
       let ill : Verdict = refuse (not (formed s)) 1 0 in
-      tested-same t (jointly ▸ ownCheck t) (jointly ▸ checks) _ _
+      tested-same t 0 (jointly ▸ ownCheck t) (jointly ▸ checks) _ _
       (numbered-then jointly (ownCheck t) (numbered-refuse (not (joint (s .conf))) 5 0 refl) own-numbered)
       (λ w. ap (λ (v : Verdict). jointly ▸ v) (own-check w))
       (λ w p. leave-on s (whole w) (then-right jointly checks p) (t .ids) (same-tracked w) (t .conf) (same-conf w))
-      ∙ ap (ifFormed t) (then-given ill (jointly ▸ checks) _ ∙ ap (λ (a : rules.Answer). ill ⇒ a) (sym (tests-first jointly checks _ _)))
+      ∙ ap (ifFormed t 0) (then-given ill (jointly ▸ checks) _ ∙ ap (λ (a : rules.Answer). ill ⇒ a) (sym (tests-first jointly checks _ _)))

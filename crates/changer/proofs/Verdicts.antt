@@ -10,6 +10,7 @@ use lib.ListN.{length}
 use Rattle.rules.specs.Answers as rules
 use Rattle.rules.specs.Answers.{ok, fault, each, refuse, _▸_, _⇒_}
 use Rattle.rules.specs.Calls.{readable}
+use Rattle.rules.specs.Idle.{ifAccepted}
 use Rattle.rules.specs.State.{formed}
 use Rattle.rules.proofs.Check.{then-left, refuse-ok}
 use Rattle.rules.proofs.Sets.{or-right}
@@ -58,20 +59,25 @@ read-few xs ks h =
 
 -- ** Answers
 
-pub given-same : (c : Configuration) (v : rules.Verdict) (a : Answer) (b : rules.Answer) → Numbered v → (v ≡ ok → a ≡ answerOf c b) → given (verdictOf v) c a ≡ answerOf c (v ⇒ b)
+pub given-same : (c : Configuration) (i : ℕ) (v : rules.Verdict) (a : Answer) (b : rules.Answer) → Numbered v → (v ≡ ok → a ≡ answerOf c i b) → given (verdictOf v) c a ≡ answerOf c i (v ⇒ b)
 unfolding Numbered
-given-same c ok a b n h = h refl
-given-same c (fault k x) a b n h = rw n
+given-same c i ok a b n h = h refl
+given-same c i (fault k x) a b n h = rw n
 
--- 1, the tests u, and an answer: what the rules say, where these tests and this answer are theirs on well-formed states
-pub tested-same : (t : Tracker) (u v : rules.Verdict) (a : Answer) (b : rules.Answer) → Numbered u
+-- 1, the tests u, and an answer: what the rules say, where these tests and this answer are theirs on well-formed states, and i entries did nothing
+pub tested-same : (t : Tracker) (i : ℕ) (u v : rules.Verdict) (a : Answer) (b : rules.Answer) → Numbered u
     → (trackerWellFormed t ≡ true → u ≡ v)
-    → (trackerWellFormed t ≡ true → v ≡ ok → a ≡ answerOf (t .conf) b)
-    → given (formedThen t u) (t .conf) a ≡ ifFormed t ((refuse (not (formed (stateOf t))) 1 0 ▸ v) ⇒ b)
-tested-same t u v a b n e h = go (trackerWellFormed t) refl
+    → (trackerWellFormed t ≡ true → v ≡ ok → a ≡ answerOf (t .conf) i b)
+    → given (formedThen t u) (t .conf) a ≡ ifFormed t i ((refuse (not (formed (stateOf t))) 1 0 ▸ v) ⇒ b)
+tested-same t i u v a b n e h = go (trackerWellFormed t) refl
   where
     go : (w : Bool) → trackerWellFormed t ≡ w
         → given (cond w (verdictOf u) (verdictOf (fault 1 0))) (t .conf) a
-        ≡ cond w (answerOf (t .conf) ((refuse (not (formed (stateOf t))) 1 0 ▸ v) ⇒ b)) (answerOf (t .conf) (rules.refused 1 0))
-    go true w = rw (tracker-formed t w, ← e w) (given-same (t .conf) u a b n (λ p. h w (sym (e w) ∙ p)))
+        ≡ cond w (answerOf (t .conf) i ((refuse (not (formed (stateOf t))) 1 0 ▸ v) ⇒ b)) (answerOf (t .conf) 0 (rules.refused 1 0))
+    go true w = rw (tracker-formed t w, ← e w) (given-same (t .conf) i u a b n (λ p. h w (sym (e w) ∙ p)))
     go false w = refl
+
+-- the count of a refused call is 0
+pub count-same : (t : Tracker) (i : ℕ) (a : rules.Answer) → ifFormed t i a ≡ ifFormed t (ifAccepted a i) a
+count-same t i (rules.accepted c log) = refl
+count-same t i (rules.refused n x) = refl

@@ -6,26 +6,29 @@ use mathlib.Core.List.{List, []}
 use Rattle.rules.specs.Answers as rules
 use Rattle.rules.specs.Answers.{accepted, refused}
 use Rattle.rules.specs.Calls.{simple, enterJoint, leaveJoint}
+use Rattle.rules.specs.Idle.{simpleIdles, enterIdles}
 use Rattle.tracker.specs.Bridge.{configurationOf, changeLogOf, stateOf}
 use Rattle.tracker.specs.Form.{trackerWellFormed}
 use Rattle.tracker.specs.declared.Configuration.{Configuration}
 use Rattle.tracker.specs.declared.Tracker.{Tracker}
 use Rattle.changer.specs.declared.Answer.{Answer}
 
--- "A refusal gives the number and the id named here, else id 0, the state given and an empty log."
-abbrev pub answerOf : Configuration → rules.Answer → Answer
-answerOf given (accepted c log) = record { number = 0; id = 0; conf = configurationOf c; log = changeLogOf log }
-answerOf given (refused n x) = record { number = n; id = x; conf = given; log = changeLogOf [] }
+-- "A refusal gives the number and the id named here, else id 0, the state given and an empty log"; "a refused call gives 0". The number i is of
+-- the entries that did nothing.
+abbrev pub answerOf : Configuration → ℕ → rules.Answer → Answer
+answerOf given i (accepted c log) = record { number = 0; id = 0; conf = configurationOf c; log = changeLogOf log; idle = i }
+answerOf given i (refused n x) = record { number = n; id = x; conf = given; log = changeLogOf []; idle = 0 }
 
 -- 1: "malformed state"
-abbrev pub ifFormed : Tracker → rules.Answer → Answer
-ifFormed t a = cond (trackerWellFormed t) (answerOf (t .conf) a) (answerOf (t .conf) (refused 1 0))
+abbrev pub ifFormed : Tracker → ℕ → rules.Answer → Answer
+ifFormed t i a = cond (trackerWellFormed t) (answerOf (t .conf) i a) (answerOf (t .conf) 0 (refused 1 0))
 
 unfoldable pub simpleAnswer : Tracker → List ℕ → List ℕ → Answer
-simpleAnswer t ids kinds = ifFormed t (simple (stateOf t) ids kinds)
+simpleAnswer t ids kinds = ifFormed t (simpleIdles (stateOf t) ids kinds) (simple (stateOf t) ids kinds)
 
 unfoldable pub enterAnswer : Tracker → Bool → List ℕ → List ℕ → Answer
-enterAnswer t auto ids kinds = ifFormed t (enterJoint (stateOf t) auto ids kinds)
+enterAnswer t auto ids kinds = ifFormed t (enterIdles (stateOf t) auto ids kinds) (enterJoint (stateOf t) auto ids kinds)
 
+-- there is no list
 unfoldable pub leaveAnswer : Tracker → Answer
-leaveAnswer t = ifFormed t (leaveJoint (stateOf t))
+leaveAnswer t = ifFormed t 0 (leaveJoint (stateOf t))

@@ -22,11 +22,11 @@ use Rattle.changes.specs.declared.Work.{Work}
 use Rattle.changer.specs.Before.{mayEnter, mayLeave, maySimple}
 use Rattle.changer.specs.declared.Answer.{Answer}
 
-abbrev pub acceptedIn : Configuration → ChangeLog → Answer
-acceptedIn c log = record { number = 0; id = 0; conf = c; log = log }
+abbrev pub acceptedIn : Configuration → ChangeLog → ℕ → Answer
+acceptedIn c log i = record { number = 0; id = 0; conf = c; log = log; idle = i }
 
 abbrev pub refusedIn : Configuration → ℕ → ℕ → Answer
-refusedIn c n x = record { number = n; id = x; conf = c; log = changeLogOf [] }
+refusedIn c n x = record { number = n; id = x; conf = c; log = changeLogOf []; idle = 0 }
 
 -- where the tests refuse, the configuration that was given; else the rest
 abbrev pub given : Verdict → Configuration → Answer → Answer
@@ -55,17 +55,17 @@ withAuto auto c =
     }
 
 abbrev pub withAutoIn : Bool → Answer → Answer
-withAutoIn auto a = record { number = a .number; id = a .id; conf = withAuto auto (a .conf); log = a .log }
+withAutoIn auto a = record { number = a .number; id = a .id; conf = withAuto auto (a .conf); log = a .log; idle = a .idle }
 
 -- 16, 17, or what the list came to
 abbrev pub afterList : Configuration → Work → Answer
 afterList c w =
     cond (w .full) (refusedIn c 16 (w .id))
     (cond (isEmpty (held (w .conf .incoming))) (refusedIn c 17 0)
-    (acceptedIn (w .conf) (w .log)))
+    (acceptedIn (w .conf) (w .log) (w .idle)))
 
 abbrev pub carriedIn : IdSet → Configuration → List ℕ → List ℕ → Answer
-carriedIn tracked c ids kinds = afterList c (changesIn (held tracked) ids kinds (workIn c (changeLogOf []) (min (tracked .len) 64)))
+carriedIn tracked c ids kinds = afterList c (changesIn (held tracked) ids kinds (workIn c (changeLogOf []) (min (tracked .len) 64) 0))
 
 -- ** After the changes
 
@@ -106,7 +106,7 @@ leftIn c =
     }
 
 abbrev pub leavingIn : Configuration → Answer
-leavingIn c = acceptedIn (leftIn c) (changeLogOf (removals (goneWalk (held (c .outgoing)) (held (c .incoming)) (held (learnersAfter c)))))
+leavingIn c = acceptedIn (leftIn c) (changeLogOf (removals (goneWalk (held (c .outgoing)) (held (c .incoming)) (held (learnersAfter c))))) 0
 
 -- ** The calls
 

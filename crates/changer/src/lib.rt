@@ -24,12 +24,14 @@ ghost use Rattle.changer.specs.Calls.{enterAnswer, leaveAnswer, simpleAn
 ghost use Rattle.changer.specs.Before.{readableIn, anyAbove2, mayEnter, mayLeave, maySimple};
 ghost use Rattle.changer.specs.Stages.{refusedIn, acceptedIn, enteringIn, withAutoIn, carriedIn, againIn, pendingOne, pendingIn, leavingIn, goneWalk};
 
-// What a call answers: number and id, 0 where it is accepted; then the new configuration and the log, else the configuration given and no log.
+// What a call answers: number and id, 0 where it is accepted; then the new configuration, the log and how many entries of the list did nothing, else
+// the configuration given, no log and 0.
 pub struct Answer {
     pub number: u64,
     pub id: u64,
     pub conf: Configuration,
     pub log: ChangeLog,
+    pub idle: usize,
 }
 
 // Verifies that the outgoing (=right) majority config of the joint config is empty and initializes it with a copy of the incoming (=left)
@@ -97,6 +99,7 @@ fn refused(conf: Configuration, number: u64, id: u64) -> Answer
         id,
         conf,
         log,
+        idle: 0,
     }
 }
 
@@ -212,6 +215,7 @@ fn with_auto(a: Answer, auto_leave: bool) -> Answer
         id: a.id,
         conf,
         log,
+        idle: a.idle,
     }
 }
 
@@ -225,6 +229,7 @@ fn carry_out<'a>(tracked: IdSet, conf: Configuration, ids: &'a [u64], kinds: &'a
         conf,
         log,
         tracked: n,
+        idle: 0,
         full: false,
         id: 0,
     };
@@ -237,17 +242,18 @@ fn carry_out<'a>(tracked: IdSet, conf: Configuration, ids: &'a [u64], kinds: &'a
     if new.incoming.is_empty() {
         return refused(conf, numbers::NO_VOTER_LEFT, 0);
     }
-    accepted(new, w.log)
+    accepted(new, w.log, w.idle)
 }
 
-fn accepted(conf: Configuration, log: ChangeLog) -> Answer
-    ensures { λ r. ⌜ r ≡ acceptedIn conf log ⌝ }
+fn accepted(conf: Configuration, log: ChangeLog, idle: usize) -> Answer
+    ensures { λ r. ⌜ r ≡ acceptedIn conf log idle ⌝ }
 {
     Answer {
         number: numbers::ACCEPTED,
         id: 0,
         conf,
         log,
+        idle,
     }
 }
 
@@ -330,7 +336,7 @@ fn leave(conf: Configuration) -> Answer
         learners_next: none,
         auto_leave: false,
     };
-    accepted(left, log)
+    accepted(left, log, 0)
 }
 
 // A Remove for each outgoing id that is neither incoming nor learner, ascending: the three sets are walked side by side.

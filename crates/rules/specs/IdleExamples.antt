@@ -51,9 +51,9 @@ simply = (refl, refl, refl, refl, refl, refl, refl, refl, refl)
 pub entered :
     -- 3 is OS at its second turn; 1 and 0 do nothing, and 9 is not there
     (enterIdles s123 false (3 ∷ 3 ∷ 1 ∷ 0 ∷ 9 ∷ []) (2 ∷ 2 ∷ 0 ∷ 0 ∷ 1 ∷ []) ≡ 4)
-    -- takes the turn before incoming is copied: 2 would be none after the first removal, and is O
+    -- counts what is not logged: the first removal brings 2 from IO to O, and only the second leaves it
     × (enterIdles s2 true (2 ∷ 2 ∷ []) (1 ∷ 1 ∷ []) ≡ 1)
-    -- and IO at the first: AddNode leaves it
+    -- takes any AddNode for a change: 2 is IO
     × (enterIdles s2 false (2 ∷ []) (0 ∷ []) ≡ 1)
     -- counts of a refused list (17, 4)
     × (enterIdles s1 false (1 ∷ 0 ∷ []) (1 ∷ 0 ∷ []) ≡ 0)

@@ -44,7 +44,12 @@ accepted-requires : tie.Need-accepted-requires
 accepted-requires c κs = search needs
 
 returns-3 : tie.Need-returns-3
-returns-3 c = search (needs, carried-well, set-sized)
+returns-3 c =
+    let at = c .before .before .before .before in
+    let l = at .before .before .before .before .before in
+    let g = l .before .before .before in
+    carried-well (g .args .tracked) (set-sized (g .args .tracked) (g .good .0)) (l .least .ensures) (g .args .conf) _ _ (at .before .before .before .before .new .ensures) (at .before .apply .ensures) (at .if1 .left)
+    (c .before .before .is-empty .ensures) (c .before .if2 .left) (c .accepted .ensures)
 
 pub carry-out-spec : {M : Type 1} → statement M
 carry-out-spec =
