@@ -27,7 +27,7 @@ module _ (y : Session) (f : formed (y .state) ≡ true) (kind n : ℕ) where
   after-formed = either (isChange kind) (λ c. rw c f) (λ c. rw c (applied-formed (y .state) n f (answerTo y kind) answer-fits))
 
 -- a fitting answer's line, from its struct
-pub text-same : (s : State) (n : ℕ) (given : Configuration) (a : Answer) → Fits s n a → (k : ℕ) → answerText k (answerOf given a) ≡ answerLine k a
+pub text-same : (s : State) (n : ℕ) (given : Configuration) (i : ℕ) (a : Answer) → Fits s n a → (k : ℕ) → answerText k (answerOf given i a) ≡ answerLine k a
 unfolding answerText Fits
-text-same s n given (accepted c log) h k = rw (conf-back c (h .fits), log-back log (h .short))
-text-same s n given (refused m x) h k = rw h
+text-same s n given i (accepted c log) h k = rw (conf-back c (h .fits), log-back log (h .short))
+text-same s n given i (refused m x) h k = rw h

@@ -1,7 +1,7 @@
 -- A replay in a struct is the replay of specs/Script.antt: the beginning, what a record shows, and what it leaves. Assumes nothing.
 use Prim.Native.Nat.{ℕ, suc, _+_, _≤_, _<_, min}
 use mathlib.Core.Path.{_≡_, refl, ap, _∙_}
-use mathlib.Core.Bool.{Bool, true, false, _&&_, _||_, not}
+use mathlib.Core.Bool.{Bool, true, false, _&&_, _||_, not, cond}
 use mathlib.Core.List.{List, [], _∷_, _++_}
 use native.Mathlib.Numerals.{add-one}
 use native.Mathlib.Omega.{arith}
@@ -13,6 +13,7 @@ use Rattle.rules.specs.Ids.{isEmpty, ascending}
 use Rattle.rules.specs.State.{State, fresh, formed, confFormed, ids}
 use Rattle.rules.specs.Answers.{Answer, refused}
 use Rattle.rules.specs.Calls.{simple, enterJoint, leaveJoint}
+use Rattle.rules.specs.Idle.{enterIdles, simpleIdles}
 use Rattle.rules.specs.Restore.{applyAnswer}
 use Rattle.text.specs.Put.{last}
 use Rattle.tracker.specs.Bridge.{stateOf}
@@ -71,18 +72,26 @@ module _ (z : Session) (kind : ℕ) where
   abbrev pub told : Answer
   told = answerTo (sessionOf z) kind
 
-  pub answer-same : trackerWellFormed (z .tracker) ≡ true → answerIn z kind ≡ answerOf (z .tracker .conf) told
+  -- how many entries did nothing; the listing does not show it
+  abbrev pub idle : ℕ
+  idle =
+      let s : State = stateOf (z .tracker) in
+      let xs : List ℕ = take (z .len) (z .ids) in
+      let ks : List ℕ = take (z .len) (z .kinds) in
+      cond (eqb kind 3) (simpleIdles s xs ks) (cond (eqb kind 6) 0 (enterIdles s (eqb kind 5) xs ks))
+
+  pub answer-same : trackerWellFormed (z .tracker) ≡ true → answerIn z kind ≡ answerOf (z .tracker .conf) idle told
   unfolding answerIn answerTo simpleAnswer enterAnswer leaveAnswer
   answer-same w =
       let s : State = stateOf (z .tracker) in
       let xs : List ℕ = take (z .len) (z .ids) in
       let ks : List ℕ = take (z .len) (z .kinds) in
-      rw w (cond-swap (answerOf (z .tracker .conf)) (leaveJoint s) (simple s xs ks) (enterJoint s (eqb kind 5) xs ks) (eqb kind 6) (eqb kind 3)
+      rw w (cond-swap (answerOf (z .tracker .conf)) 0 (simpleIdles s xs ks) (enterIdles s (eqb kind 5) xs ks) (leaveJoint s) (simple s xs ks) (enterJoint s (eqb kind 5) xs ks) (eqb kind 6) (eqb kind 3)
       (λ a b. omega (arith, eqb-true kind 6 a, eqb-true kind 3 b)))
 
-  pub answer-ill : trackerWellFormed (z .tracker) ≡ false → answerIn z kind ≡ answerOf (z .tracker .conf) (refused 1 0)
+  pub answer-ill : trackerWellFormed (z .tracker) ≡ false → answerIn z kind ≡ answerOf (z .tracker .conf) 0 (refused 1 0)
   unfolding answerIn simpleAnswer enterAnswer leaveAnswer
-  answer-ill w = rw w (cond-same (answerOf (z .tracker .conf) (refused 1 0)) (eqb kind 6) (eqb kind 3))
+  answer-ill w = rw w (cond-same (answerOf (z .tracker .conf) 0 (refused 1 0)) (eqb kind 6) (eqb kind 3))
 
   pub told-fits : trackerWellFormed (z .tracker) ≡ true → (n : ℕ) → Fits (stateOf (z .tracker)) n told
   told-fits w n = answer-fits (sessionOf z) (tracker-formed (z .tracker) w) kind n
@@ -97,7 +106,7 @@ module _ (z : Session) (g : Good z) (kind : ℕ) where
   unfolding shownIn shown
   shown-same h =
       let e : min (z .printed + 1) last ≡ suc (z .printed) = omega arith in
-      rw (e, answer-same z kind (g .well), text-same (stateOf (z .tracker)) 0 (z .tracker .conf) (told z kind) (fits 0) (suc (z .printed)))
+      rw (e, answer-same z kind (g .well), text-same (stateOf (z .tracker)) 0 (z .tracker .conf) (idle z kind) (told z kind) (fits 0) (suc (z .printed)))
 
   module _ (n : ℕ) where
     -- a change more
@@ -126,7 +135,7 @@ module _ (z : Session) (g : Good z) (kind : ℕ) where
     unfolding appliedIn
     applied-good =
         record {
-          well = rw (answer-same z kind (g .well)) (outcome-formed (z .tracker) (g .well) n (told z kind) (fits n));
+          well = rw (answer-same z kind (g .well)) (outcome-formed (z .tracker) (g .well) n (idle z kind) (told z kind) (fits n));
           ids = length-replicate {A = ℕ} 256 0;
           kinds = length-replicate {A = ℕ} 256 0;
           few = omega arith;
@@ -135,7 +144,7 @@ module _ (z : Session) (g : Good z) (kind : ℕ) where
     state-same : stateOf (appliedTo (z .tracker) (answerIn z kind) n .tracker) ≡ applyAnswer (stateOf (z .tracker)) n (told z kind) .state
     state-same =
         ap (λ (a : changer.Answer). stateOf (appliedTo (z .tracker) a n .tracker)) (answer-same z kind (g .well))
-        ∙ ap (λ (o : Outcome). stateOf (o .tracker)) (applied-same (z .tracker) (g .well) n (told z kind) (fits n))
+        ∙ ap (λ (o : Outcome). stateOf (o .tracker)) (applied-same (z .tracker) (g .well) n (idle z kind) (told z kind) (fits n))
         ∙ state-back (applyAnswer (stateOf (z .tracker)) n (told z kind) .state) (applied-formed (stateOf (z .tracker)) n (tracker-formed (z .tracker) (g .well)) (told z kind) (fits n))
 
     applied-session : z .printed < last → sessionOf (appliedIn z (answerIn z kind) n) ≡ record { state = applyAnswer (stateOf (z .tracker)) n (told z kind) .state; ids = []; kinds = []; printed = suc (z .printed) }

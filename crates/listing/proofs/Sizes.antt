@@ -26,7 +26,7 @@ use Rattle.listing.specs.Sessions.{answerIn, answerText, shownIn}
 use Rattle.listing.specs.declared.Session.{Session}
 use Rattle.listing.proofs.Cases.{either}
 use Rattle.listing.proofs.Answers.{answer-fits, after-formed, text-same}
-use Rattle.listing.proofs.Sessions.{fresh-formed, told, told-fits, answer-same, answer-ill}
+use Rattle.listing.proofs.Sessions.{fresh-formed, idle, told, told-fits, answer-same, answer-ill}
 
 -- ** The pieces
 
@@ -83,12 +83,12 @@ pub line-size : (z : Session) (kind : ℕ) → length (shownIn z kind) ≤ 11300
 unfolding shownIn Fits
 line-size z kind =
     either (isChange kind) (λ c. rw c (omega arith))
-    (λ c. rw c (either (trackerWellFormed (z .tracker)) (λ w. from (told z kind) (answer-same z kind w) (told-fits z kind w 0)) (λ w. from (refused 1 0) (answer-ill z kind w) refl)))
+    (λ c. rw c (either (trackerWellFormed (z .tracker)) (λ w. from (idle z kind) (told z kind) (answer-same z kind w) (told-fits z kind w 0)) (λ w. from 0 (refused 1 0) (answer-ill z kind w) refl)))
   where
-    from : (a : Answer) → answerIn z kind ≡ answerOf (z .tracker .conf) a → Fits (stateOf (z .tracker)) 0 a → length (answerText (min (z .printed + 1) last) (answerIn z kind)) ≤ 11300
-    from a e f =
+    from : (i : ℕ) (a : Answer) → answerIn z kind ≡ answerOf (z .tracker .conf) i a → Fits (stateOf (z .tracker)) 0 a → length (answerText (min (z .printed + 1) last) (answerIn z kind)) ≤ 11300
+    from i a e f =
         let k : ℕ = min (z .printed + 1) last in
-        rw (e, text-same (stateOf (z .tracker)) 0 (z .tracker .conf) a f k) (answer-size (stateOf (z .tracker)) 0 a f k)
+        rw (e, text-same (stateOf (z .tracker)) 0 (z .tracker .conf) i a f k) (answer-size (stateOf (z .tracker)) 0 a f k)
 
 -- ** Listings
 

@@ -125,6 +125,7 @@ full =
       id = 0;
       conf = configurationOf (record { incoming = 1 ∷ []; outgoing = 1 ∷ 2 ∷ []; learners = 5 ∷ 6 ∷ []; staged = 2 ∷ []; autoLeave = true });
       log = changeLogOf (remove 5 ∷ add 2 ∷ []);
+      idle = 1;
     }
 
 pub texts :

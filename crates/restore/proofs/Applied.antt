@@ -7,6 +7,7 @@ use lib.Dec.{eqb}
 use Rattle.rules.specs.State.{State, formed}
 use Rattle.rules.specs.Answers.{Answer, Verdict, accepted, fault, ok, refuse, refused, _▸_, _⇒_}
 use Rattle.rules.specs.Calls.{enterJoint, enterOf, leaveJoint, leaveOf, listOf, readable, simple, simpleOf}
+use Rattle.rules.specs.Idle.{enterIdles, simpleIdles}
 use Rattle.rules.specs.Restore.{Step, applyAnswer, ask, enterStep, leaveStep, simpleStep}
 use Rattle.rules.proofs.Applied.{Applied, any-applied}
 use Rattle.rules.proofs.Check.{then-right}
@@ -82,39 +83,39 @@ module _ (s : State) (next : ℕ) where
   applied-marked (accepted c log) h = rw (h .done) tt
   applied-marked (refused n x) h = h
 
--- ** The structs
+-- ** The structs: how many entries did nothing is not asked
 
 module _ (t : Tracker) (w : trackerWellFormed t ≡ true) (next : ℕ) where
-  pub applied-same : (a : Answer) → Fits (stateOf t) next a → appliedTo t (answerOf (t .conf) a) next ≡ outcomeOf (applyAnswer (stateOf t) next a)
+  pub applied-same : (i : ℕ) (a : Answer) → Fits (stateOf t) next a → appliedTo t (answerOf (t .conf) i a) next ≡ outcomeOf (applyAnswer (stateOf t) next a)
   unfolding appliedTo applyOf Fits
-  applied-same (accepted c log) h = rw (w, conf-well c (h .fits), log-well log (h .short), conf-back c (h .fits), log-back log (h .short))
-  applied-same (refused n x) h = rw (h, unit-tracker t w)
+  applied-same i (accepted c log) h = rw (w, conf-well c (h .fits), log-well log (h .short), conf-back c (h .fits), log-back log (h .short))
+  applied-same i (refused n x) h = rw (h, unit-tracker t w)
 
-  pub outcome-formed : (a : Answer) → Fits (stateOf t) next a → trackerWellFormed (appliedTo t (answerOf (t .conf) a) next .tracker) ≡ true
-  outcome-formed a h =
-      ap (λ (o : Outcome). trackerWellFormed (o .tracker)) (applied-same a h)
+  pub outcome-formed : (i : ℕ) (a : Answer) → Fits (stateOf t) next a → trackerWellFormed (appliedTo t (answerOf (t .conf) i a) next .tracker) ≡ true
+  outcome-formed i a h =
+      ap (λ (o : Outcome). trackerWellFormed (o .tracker)) (applied-same i a h)
       ∙ tracker-well (applyAnswer (stateOf t) next a .state) (applied-formed (stateOf t) next (tracker-formed t w) a h)
 
   pub simple-applied : (xs ks : List ℕ) → appliedTo t (simpleAnswer t xs ks) next ≡ outcomeOf (applyAnswer (stateOf t) next (simple (stateOf t) xs ks))
   unfolding simpleAnswer
-  simple-applied xs ks = rw w (applied-same (simple (stateOf t) xs ks) (simple-fits (stateOf t) next (tracker-formed t w) xs ks))
+  simple-applied xs ks = rw w (applied-same (simpleIdles (stateOf t) xs ks) (simple (stateOf t) xs ks) (simple-fits (stateOf t) next (tracker-formed t w) xs ks))
 
   pub enter-applied : (auto : Bool) (xs ks : List ℕ) → appliedTo t (enterAnswer t auto xs ks) next ≡ outcomeOf (applyAnswer (stateOf t) next (enterJoint (stateOf t) auto xs ks))
   unfolding enterAnswer
-  enter-applied auto xs ks = rw w (applied-same (enterJoint (stateOf t) auto xs ks) (enter-fits (stateOf t) next (tracker-formed t w) auto xs ks))
+  enter-applied auto xs ks = rw w (applied-same (enterIdles (stateOf t) auto xs ks) (enterJoint (stateOf t) auto xs ks) (enter-fits (stateOf t) next (tracker-formed t w) auto xs ks))
 
   pub leave-applied : appliedTo t (leaveAnswer t) next ≡ outcomeOf (applyAnswer (stateOf t) next (leaveJoint (stateOf t)))
   unfolding leaveAnswer
-  leave-applied = rw w (applied-same (leaveJoint (stateOf t)) (leave-fits (stateOf t) next (tracker-formed t w)))
+  leave-applied = rw w (applied-same 0 (leaveJoint (stateOf t)) (leave-fits (stateOf t) next (tracker-formed t w)))
 
   pub simple-formed : (xs ks : List ℕ) → trackerWellFormed (appliedTo t (simpleAnswer t xs ks) next .tracker) ≡ true
   unfolding simpleAnswer
-  simple-formed xs ks = rw w (outcome-formed (simple (stateOf t) xs ks) (simple-fits (stateOf t) next (tracker-formed t w) xs ks))
+  simple-formed xs ks = rw w (outcome-formed (simpleIdles (stateOf t) xs ks) (simple (stateOf t) xs ks) (simple-fits (stateOf t) next (tracker-formed t w) xs ks))
 
   pub enter-formed : (auto : Bool) (xs ks : List ℕ) → trackerWellFormed (appliedTo t (enterAnswer t auto xs ks) next .tracker) ≡ true
   unfolding enterAnswer
-  enter-formed auto xs ks = rw w (outcome-formed (enterJoint (stateOf t) auto xs ks) (enter-fits (stateOf t) next (tracker-formed t w) auto xs ks))
+  enter-formed auto xs ks = rw w (outcome-formed (enterIdles (stateOf t) auto xs ks) (enterJoint (stateOf t) auto xs ks) (enter-fits (stateOf t) next (tracker-formed t w) auto xs ks))
 
   pub leave-formed : trackerWellFormed (appliedTo t (leaveAnswer t) next .tracker) ≡ true
   unfolding leaveAnswer
-  leave-formed = rw w (outcome-formed (leaveJoint (stateOf t)) (leave-fits (stateOf t) next (tracker-formed t w)))
+  leave-formed = rw w (outcome-formed 0 (leaveJoint (stateOf t)) (leave-fits (stateOf t) next (tracker-formed t w)))

@@ -66,7 +66,7 @@ unfolding restoreOf tooLong trackerWellFormed confWellFormed wellFormed zeros al
 restored = (refl, refl, refl, refl, refl, refl, refl)
 
 abbrev answer : ℕ → ℕ → Conf → List Entry → Answer
-answer n x c log = record { number = n; id = x; conf = configurationOf c; log = changeLogOf log }
+answer n x c log = record { number = n; id = x; conf = configurationOf c; log = changeLogOf log; idle = 0 }
 
 pub answered :
     -- `apply_answer` that applies a refused answer; that drops the refusal's id
