@@ -11,3 +11,6 @@ pub mod RoundSmall
 pub mod RoundSets
 pub mod RoundStates
 pub mod Round
+pub mod TypedRules
+pub mod TypedBridge
+pub mod TypedReplies

@@ -79,4 +79,4 @@ conf-state-small {c} z =
 pub reply-small : {r : Reply} → TypedReply r → Each U64 (replyWords r)
 unfolding replyWords
 reply-small {r} z =
-    more (z .number) (more (z .id) (more (flag-small (r .yes)) (each-append (state-small (z .tracker)) (each-append (log-small (z .log)) (conf-state-small (z .«conf_state»))))))
+    more (z .number) (more (z .id) (more (flag-small (r .yes)) (each-append (state-small (z .tracker)) (each-append (log-small (z .log)) (each-append (conf-state-small (z .«conf_state»)) (more (z .idle) none))))))

@@ -79,3 +79,4 @@ pub record TypedReply (r : Reply) : Type 0 where
   pub tracker : TypedState (r .tracker)
   pub log : TypedLog (r .log)
   pub «conf_state» : TypedConfState (r .«conf_state»)
+  pub idle : U64 (r .idle)

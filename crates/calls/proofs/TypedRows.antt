@@ -122,4 +122,5 @@ reply-typed {vs} r p =
       tracker = state-typed (r .tracker) (o .1 .1 .1 .0);
       log = log-typed (r .log) (o .1 .1 .1 .1 .0);
       «conf_state» = conf-state-typed (r .«conf_state») (o .1 .1 .1 .1 .1 .0);
+      idle = o .1 .1 .1 .1 .1 .1 .0 .1;
     }

@@ -95,7 +95,7 @@ module _ (s : List ℕ) where
   reply-check e = rw (eq-eqb (word s 0) 0 e)
 
   module _ (n0 : word s 0 ≡ 0 → ⊥) where
-    pub reply-order : word s 0 ≡ 1 → reply 0 0 (inOrderOf (stateAt s 1)) (stateAt s 1) noLog noLists ≡ replyTo s
+    pub reply-order : word s 0 ≡ 1 → reply 0 0 (inOrderOf (stateAt s 1)) (stateAt s 1) noLog noLists 0 ≡ replyTo s
     unfolding replyTo
     reply-order e = rw (ne-eqb (word s 0) 0 n0, eq-eqb (word s 0) 1 e)
 
@@ -139,26 +139,26 @@ module _ (s out : List ℕ) where
   call-length f = refused 0 (rw (ne-eqb (length s) 20216 f))
 
   module _ (e : length s ≡ 20216) where
-    pub call-room : length out < 13952 → (2 ≡ callAnswer s (length out)) × (out ≡ callLeaves s out)
+    pub call-room : length out < 13960 → (2 ≡ callAnswer s (length out)) × (out ≡ callLeaves s out)
     unfolding callAnswer
-    call-room h = refused 1 (rw (eq-eqb (length s) 20216 e, lt-ltb (length out) 13952 h))
+    call-room h = refused 1 (rw (eq-eqb (length s) 20216 e, lt-ltb (length out) 13960 h))
 
-    module _ (room : 13952 ≤ length out) where
+    module _ (room : 13960 ≤ length out) where
       pub call-unknown : 7 < word s 0 → (3 ≡ callAnswer s (length out)) × (out ≡ callLeaves s out)
       unfolding callAnswer
-      call-unknown h = refused 2 (rw (eq-eqb (length s) 20216 e, le-ltb (length out) 13952 room, lt-ltb 7 (word s 0) h))
+      call-unknown h = refused 2 (rw (eq-eqb (length s) 20216 e, le-ltb (length out) 13960 room, lt-ltb 7 (word s 0) h))
 
       module _ (known : word s 0 ≤ 7) where
         pub call-held : holds s ≡ false → (4 ≡ callAnswer s (length out)) × (out ≡ callLeaves s out)
         unfolding callAnswer
-        call-held h = refused 3 (rw (eq-eqb (length s) 20216 e, le-ltb (length out) 13952 room, le-ltb 7 (word s 0) known, h))
+        call-held h = refused 3 (rw (eq-eqb (length s) 20216 e, le-ltb (length out) 13960 room, le-ltb 7 (word s 0) known, h))
 
         accepted : holds s ≡ true → callAnswer s (length out) ≡ 0
         unfolding callAnswer
-        accepted h = rw (eq-eqb (length s) 20216 e, le-ltb (length out) 13952 room, le-ltb 7 (word s 0) known, h)
+        accepted h = rw (eq-eqb (length s) 20216 e, le-ltb (length out) 13960 room, le-ltb 7 (word s 0) known, h)
 
         pub call-done : holds s ≡ true → length out ≤ last → (r : Reply) → TypedReply r → r ≡ replyTo s → {new : List ℕ} {n : ℕ} → Put out 0 (allBytes (replyWords r)) new n → (0 ≡ callAnswer s (length out)) × (new ≡ callLeaves s out)
         unfolding callLeaves
         call-done h m r z q f =
-            let long : length (allBytes (replyWords r)) ≡ 13952 = reply-length z in
-            (sym (accepted h), rw (accepted h) (put-whole m f (omega arith) .0 ∙ (ap (λ (n : ℕ). allBytes (replyWords r) ++ drop n out) long ∙ ap (λ (x : Reply). allBytes (replyWords x) ++ drop 13952 out) q)))
+            let long : length (allBytes (replyWords r)) ≡ 13960 = reply-length z in
+            (sym (accepted h), rw (accepted h) (put-whole m f (omega arith) .0 ∙ (ap (λ (n : ℕ). allBytes (replyWords r) ++ drop n out) long ∙ ap (λ (x : Reply). allBytes (replyWords x) ++ drop 13960 out) q)))

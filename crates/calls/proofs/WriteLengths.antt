@@ -1,4 +1,4 @@
--- How many bytes a reply has: 13,952. Assumes nothing.
+-- How many bytes a reply has: 13,960. Assumes nothing.
 use Prim.Native.Nat.{ℕ, _*_}
 use mathlib.Core.Path.{_≡_, refl}
 use mathlib.Core.List.{List, [], _∷_, _++_}
@@ -43,7 +43,7 @@ pub conf-length : {c : Configuration} → TypedConf c → length (confWords c) �
 unfolding confWords
 conf-length {c} z = five-length (setWords (c .incoming)) (setWords (c .outgoing)) (setWords (c .learners)) (setWords (c .«learners_next»)) (flagWord (c .«auto_leave»)) (set-length (z .incoming)) (set-length (z .outgoing)) (set-length (z .learners)) (set-length (z .«learners_next»))
 
-conf-state-length : {c : ConfState} → TypedConfState c → length (confStateWords c) ≡ 261
+pub conf-state-length : {c : ConfState} → TypedConfState c → length (confStateWords c) ≡ 261
 unfolding confStateWords
 conf-state-length {c} z = five-length (listWords (c .voters)) (listWords (c .learners)) (listWords (c .«voters_outgoing»)) (listWords (c .«learners_next»)) (flagWord (c .«auto_leave»)) (list-length (z .voters)) (list-length (z .learners)) (list-length (z .«voters_outgoing»)) (list-length (z .«learners_next»))
 
@@ -74,13 +74,14 @@ pub log-length : {l : ChangeLog} → TypedLog l → length (logWords l) ≡ 513
 unfolding logWords
 log-length {l} z = omega (arith, length-append (entriesWords (l .entries)) (l .count ∷ []), entries-length (l .entries), z .entries .places)
 
-words-length : {r : Reply} → TypedReply r → length (replyWords r) ≡ 1744
+words-length : {r : Reply} → TypedReply r → length (replyWords r) ≡ 1745
 unfolding replyWords
 words-length {r} z =
     let a = stateWords (r .tracker) in
     let b = logWords (r .log) in
     let c = confStateWords (r .«conf_state») in
-    omega (arith, length-append a (b ++ c), length-append b c, state-length (z .tracker), log-length (z .log), conf-state-length (z .«conf_state»))
+    let d = r .idle ∷ [] in
+    omega (arith, length-append a (b ++ (c ++ d)), length-append b (c ++ d), length-append c d, state-length (z .tracker), log-length (z .log), conf-state-length (z .«conf_state»))
 
-pub reply-length : {r : Reply} → TypedReply r → length (allBytes (replyWords r)) ≡ 13952
+pub reply-length : {r : Reply} → TypedReply r → length (allBytes (replyWords r)) ≡ 13960
 reply-length {r} z = omega (arith, all-length (replyWords r), words-length z)

@@ -85,13 +85,13 @@ pub log-bytes : (l : ChangeLog) → allBytes (logWords l) ≡ allBytes (entriesW
 unfolding logWords
 log-bytes l = set-bytes (entriesWords (l .entries)) (l .count)
 
-all-six : (m n o : ℕ) (a b c : List ℕ) → allBytes (m ∷ n ∷ o ∷ (a ++ (b ++ c))) ≡ wordBytes m ++ (wordBytes n ++ (wordBytes o ++ (allBytes a ++ (allBytes b ++ allBytes c))))
+all-seven : (m n o : ℕ) (a b c : List ℕ) (w : ℕ) → allBytes (m ∷ n ∷ o ∷ (a ++ (b ++ (c ++ (w ∷ []))))) ≡ wordBytes m ++ (wordBytes n ++ (wordBytes o ++ (allBytes a ++ (allBytes b ++ (allBytes c ++ wordBytes w)))))
 unfolding allBytes
-all-six m n o a b c = simp all-append
+all-seven m n o a b c w = ap (λ (l : List ℕ). wordBytes m ++ (wordBytes n ++ (wordBytes o ++ l))) (all-four a b c w)
 
-pub reply-bytes : (r : Reply) → allBytes (replyWords r) ≡ wordBytes (r .number) ++ (wordBytes (r .id) ++ (wordBytes (flagWord (r .yes)) ++ (allBytes (stateWords (r .tracker)) ++ (allBytes (logWords (r .log)) ++ allBytes (confStateWords (r .«conf_state»))))))
+pub reply-bytes : (r : Reply) → allBytes (replyWords r) ≡ wordBytes (r .number) ++ (wordBytes (r .id) ++ (wordBytes (flagWord (r .yes)) ++ (allBytes (stateWords (r .tracker)) ++ (allBytes (logWords (r .log)) ++ (allBytes (confStateWords (r .«conf_state»)) ++ wordBytes (r .idle))))))
 unfolding replyWords
-reply-bytes r = all-six (r .number) (r .id) (flagWord (r .yes)) (stateWords (r .tracker)) (logWords (r .log)) (confStateWords (r .«conf_state»))
+reply-bytes r = all-seven (r .number) (r .id) (flagWord (r .yes)) (stateWords (r .tracker)) (logWords (r .log)) (confStateWords (r .«conf_state»)) (r .idle)
 
 -- ** The words of each of a list
 

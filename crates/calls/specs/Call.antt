@@ -25,8 +25,9 @@ use Rattle.calls.specs.declared.Reply.{Reply}
 
 -- ** What a call answers
 
-abbrev pub reply : ℕ → ℕ → Bool → Tracker → ChangeLog → ConfState → Reply
-reply n x b t log cs = record { number = n; id = x; yes = b; tracker = t; log = log; «conf_state» = cs }
+-- the last number is `idle`: "a refused call gives 0", and so do the calls that carry out no list
+abbrev pub reply : ℕ → ℕ → Bool → Tracker → ChangeLog → ConfState → ℕ → Reply
+reply n x b t log cs i = record { number = n; id = x; yes = b; tracker = t; log = log; «conf_state» = cs; idle = i }
 
 abbrev pub noLog : ChangeLog
 noLog = changeLogOf []
@@ -39,16 +40,16 @@ abbrev pub withConf : Tracker → Configuration → Tracker
 withConf t c = record { conf = c; ids = t .ids; records = t .records; «max_inflight» = t .«max_inflight» }
 
 abbrev pub fromVerdict : Tracker → Verdict → Reply
-fromVerdict t v = reply (v .number) (v .id) false t noLog noLists
+fromVerdict t v = reply (v .number) (v .id) false t noLog noLists 0
 
 abbrev pub fromAnswer : Tracker → Answer → Reply
-fromAnswer t a = reply (a .number) (a .id) false (withConf t (a .conf)) (a .log) noLists
+fromAnswer t a = reply (a .number) (a .id) false (withConf t (a .conf)) (a .log) noLists (a .idle)
 
 abbrev pub fromOutcome : Outcome → Reply
-fromOutcome o = reply (o .number) (o .id) false (o .tracker) noLog noLists
+fromOutcome o = reply (o .number) (o .id) false (o .tracker) noLog noLists 0
 
 abbrev pub fromWritten : Tracker → Written → Reply
-fromWritten t w = reply (w .number) (w .id) false t noLog (w .«conf_state»)
+fromWritten t w = reply (w .number) (w .id) false t noLog (w .«conf_state») 0
 
 -- the ids and the kinds of the LIST
 abbrev pub idsIn : List ℕ → List ℕ
@@ -66,7 +67,7 @@ askIn s call t =
 unfoldable pub replyTo : List ℕ → Reply
 replyTo s =
     cond (eqb (word s 0) 0) (fromVerdict (stateAt s 1) (checkOf (stateAt s 1)))
-    (cond (eqb (word s 0) 1) (reply 0 0 (inOrderOf (stateAt s 1)) (stateAt s 1) noLog noLists)
+    (cond (eqb (word s 0) 1) (reply 0 0 (inOrderOf (stateAt s 1)) (stateAt s 1) noLog noLists 0)
     (cond (eqb (word s 0) 2) (fromAnswer (stateAt s 1) (simpleAnswer (stateAt s 1) (idsIn s) (kindsIn s)))
     (cond (eqb (word s 0) 3) (fromAnswer (stateAt s 1) (enterAnswer (stateAt s 1) (flag (word s 968)) (idsIn s) (kindsIn s)))
     (cond (eqb (word s 0) 4) (fromAnswer (stateAt s 1) (leaveAnswer (stateAt s 1)))
@@ -77,16 +78,16 @@ replyTo s =
 -- ** What the entry returns and leaves
 
 unfoldable pub replyWords : Reply → List ℕ
-replyWords r = r .number ∷ r .id ∷ flagWord (r .yes) ∷ (stateWords (r .tracker) ++ (logWords (r .log) ++ confStateWords (r .«conf_state»)))
+replyWords r = r .number ∷ r .id ∷ flagWord (r .yes) ∷ (stateWords (r .tracker) ++ (logWords (r .log) ++ (confStateWords (r .«conf_state») ++ (r .idle ∷ []))))
 
 -- 1: the request's length; 2: the reply too short; 3: unknown call; 4: a word that no field can hold
 unfoldable pub callAnswer : List ℕ → ℕ → ℕ
 callAnswer s room =
     cond (not (eqb (length s) 20216)) 1
-    (cond (ltb room 13952) 2
+    (cond (ltb room 13960) 2
     (cond (ltb 7 (word s 0)) 3
     (cond (not (holds s)) 4 0)))
 
 -- the reply at the front, every byte after it kept; as it was where the answer is not 0
 unfoldable pub callLeaves : List ℕ → List ℕ → List ℕ
-callLeaves s out = cond (eqb (callAnswer s (length out)) 0) (allBytes (replyWords (replyTo s)) ++ drop 13952 out) out
+callLeaves s out = cond (eqb (callAnswer s (length out)) 0) (allBytes (replyWords (replyTo s)) ++ drop 13960 out) out

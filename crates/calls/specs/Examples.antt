@@ -33,16 +33,16 @@ unfolding number within bytes wordBytes allBytes
 held = (refl, refl, refl, refl)
 
 -- a request of no bytes: 1, also where the reply is too short, and the reply is as it was
-pub wrong-length : (callAnswer [] 0 ≡ 1) × (callAnswer [] 13952 ≡ 1) × (callLeaves [] (9 ∷ []) ≡ 9 ∷ [])
+pub wrong-length : (callAnswer [] 0 ≡ 1) × (callAnswer [] 13960 ≡ 1) × (callLeaves [] (9 ∷ []) ≡ 9 ∷ [])
 unfolding callAnswer callLeaves
 wrong-length = (refl, refl, refl)
 
 -- a request of the right length, all zeros, and a reply one byte too short: 2
-pub short-reply : callAnswer (replicate 20216 0) 13951 ≡ 2
+pub short-reply : callAnswer (replicate 20216 0) 13959 ≡ 2
 unfolding callAnswer
 short-reply = refl
 
 -- a request of the right length whose call is 8: 3
-pub unknown-call : callAnswer (8 ∷ replicate 20215 0) 13952 ≡ 3
+pub unknown-call : callAnswer (8 ∷ replicate 20215 0) 13960 ≡ 3
 unfolding callAnswer number
 unknown-call = refl

@@ -24,6 +24,7 @@ pub struct Reply {
     pub tracker: Tracker,
     pub log: ChangeLog,
     pub conf_state: ConfState,
+    pub idle: usize,
 }
 
 // The call that a request asks for, its answer written to the front of `reply`: 0. A request of the wrong length: 1; a reply that is too short: 2; an
@@ -35,7 +36,7 @@ pub extern "C" fn dimecandle_call(request: &[u8], reply: &mut [u8]) -> u64
     if request.len() != 20216 {
         return 1;
     }
-    if reply.len() < 13952 {
+    if reply.len() < 13960 {
         return 2;
     }
     if 7 < read::word(request, 0) {
@@ -102,14 +103,14 @@ fn from_verdict(t: Tracker, v: Verdict) -> Reply
 }
 
 fn from_yes(t: Tracker, yes: bool) -> Reply
-    ensures { λ r. ⌜ r ≡ replyOf 0 0 yes t noLog noLists ⌝ }
+    ensures { λ r. ⌜ r ≡ replyOf 0 0 yes t noLog noLists 0 ⌝ }
 {
     reply_of(0, 0, yes, t)
 }
 
 // Of the answers that give neither log nor lists.
 fn reply_of(number: u64, id: u64, yes: bool, t: Tracker) -> Reply
-    ensures { λ r. ⌜ r ≡ replyOf number id yes t noLog noLists ⌝ }
+    ensures { λ r. ⌜ r ≡ replyOf number id yes t noLog noLists 0 ⌝ }
 {
     let log = ChangeLog::new();
     let conf_state = ConfState::new();
@@ -120,6 +121,7 @@ fn reply_of(number: u64, id: u64, yes: bool, t: Tracker) -> Reply
         tracker: t,
         log,
         conf_state,
+        idle: 0,
     }
 }
 
@@ -139,6 +141,7 @@ fn from_answer(t: Tracker, a: Answer) -> Reply
         tracker,
         log,
         conf_state,
+        idle: a.idle,
     }
 }
 
@@ -162,5 +165,6 @@ fn from_written(t: Tracker) -> Reply
         tracker: t,
         log,
         conf_state,
+        idle: 0,
     }
 }

@@ -25,7 +25,8 @@ pub fn put_reply(out: &mut [u8], r: Reply) -> usize
     let c = put_flag(out, b, r.yes);
     let d = put_state(out, c, r.tracker);
     let e = put_log(out, d, r.log);
-    put_conf_state(out, e, r.conf_state)
+    let f = put_conf_state(out, e, r.conf_state);
+    put_word(out, f, r.idle as u64)
 }
 
 // 8 bytes, the least significant first.

@@ -1,6 +1,6 @@
 -- Which changes did nothing: an entry is idle by the table where no set says that it changed and nothing is logged, and where its id's standing
 -- and the log are left as they were; so the idle entries of an accepted list and the others are all of it. Assumes nothing.
-use Prim.Native.Nat.{ℕ, zero, suc, _+_, _-_}
+use Prim.Native.Nat.{ℕ, suc, _+_, _≤_}
 use mathlib.Core.Path.{_≡_, refl, ap, _∙_, sym}
 use mathlib.Core.Bool.{Bool, true, false, _&&_, _||_, not, cond}
 use mathlib.Core.List.{List, [], _∷_, _++_}
@@ -12,14 +12,14 @@ use Rattle.progress.specs.Record.{freshRecord}
 use Rattle.progress.specs.declared.Progress.{Progress}
 use Rattle.rules.specs.Ids.{ascending, memb}
 use Rattle.rules.specs.State.{Change, Conf, Entry, Kind, Peer, State, add, addLearner, addNode, formed, ids, remove, removeNode}
-use Rattle.rules.specs.Answers.{Verdict, _▸_, accepted, each, ok, refuse}
+use Rattle.rules.specs.Answers.{Answer, Verdict, _▸_, accepted, each, ok, refuse, refused}
 use Rattle.rules.specs.Check.{check, isTracked}
 use Rattle.rules.specs.Table.{Effect, I, IO, IOS, L, O, OS, Places, Standing, adds, idle, none, place, placesIn, placesOf, removes, standingIn, stays, table}
 use Rattle.rules.specs.Changes.{Done, Work, andThen, change, changes, done, full, logged, pending, standingNow}
 use Rattle.rules.specs.Apply.{enrol, room}
 use Rattle.rules.specs.Calls.{enterJoint, enterOf, entering, listOf, readable, simple, simpleOf, start}
 use Rattle.rules.specs.Boxes.{Box, changeBox}
-use Rattle.rules.specs.Idle.{countOf, enterIdles, enterWorks, idleRow, idles, isIdle, logsNothing, movedOrLogged, oneMoreIf, rowNumber, sameStanding, simpleIdles, simpleWorks, whenDone, works}
+use Rattle.rules.specs.Idle.{countOf, enterIdles, enterWorks, idleRow, idles, ifAccepted, isIdle, logsNothing, movedOrLogged, oneMoreIf, rowNumber, sameStanding, simpleIdles, simpleWorks, whenDone, works}
 use Rattle.rules.proofs.Sets.{or-left}
 use Rattle.rules.proofs.Plain.{changesBox}
 use Rattle.rules.proofs.Boxes.{boxAt, spot}
@@ -28,6 +28,7 @@ use Rattle.rules.proofs.Check.{refuse-ok, then-left, then-right}
 use Rattle.rules.proofs.Means.{Enter, Simple, enter-means, given-ok, given-then, simple-means}
 use Rattle.rules.proofs.Steps.{Checked, enter-sound}
 use Rattle.rules.proofs.Applied.{checked-of}
+use Rattle.rules.proofs.Demand3.{length-list}
 
 -- ** What the sets say
 
@@ -133,7 +134,34 @@ module _ (r : Progress) (ps : List Peer) (up : ascending (ids ps) ≡ true) wher
       go (done u) e h ih = either (isIdle (ids ps) c w) (movedOrLogged (ids ps) c w u) (idles (ids ps) cs u) (works (ids ps) cs u) (length cs) (idle-means r ps up c w f u e) (ih u (change-done r ps up c w u e f .fine) h)
       go (full x) e h ih = absurd (let z : _≡_ {A = ℕ} 0 1 = cc in omega arith)
 
+-- no more than the list is long
+count-few : (test : Change → Work → Work → Bool) (base : List ℕ) (cs : List Change) (w : Work) → countOf test base cs w ≤ length cs
+unfolding countOf
+count-few test base [] w = omega arith
+count-few test base (c ∷ cs) w = go (change base c w) (count-few test base cs)
+  where
+    more : (b : Bool) (n : ℕ) → n ≤ length cs → oneMoreIf b n ≤ suc (length cs)
+    more true n h = omega arith
+    more false n h = omega arith
+
+    go : (d : Done) → ((v : Work) → countOf test base cs v ≤ length cs) → whenDone d (λ v. oneMoreIf (test c w v) (countOf test base cs v)) ≤ suc (length cs)
+    go (done v) h = more (test c w v) (countOf test base cs v) (h v)
+    go (full x) h = omega arith
+
 -- ** A call
+
+-- the count of any call is no more than there are ids
+call-few : (a : Answer) (test : Change → Work → Work → Bool) (base xs ks : List ℕ) (w : Work) → ifAccepted a (countOf test base (listOf xs ks) w) ≤ length xs
+call-few (accepted c log) test base xs ks w = omega (arith, count-few test base (listOf xs ks) w, length-list xs ks)
+call-few (refused m x) test base xs ks w = omega arith
+
+pub simple-few : (s : State) (xs ks : List ℕ) → simpleIdles s xs ks ≤ length xs
+unfolding simpleIdles
+simple-few s xs ks = call-few (simple s xs ks) (λ c w v. isIdle (ids (s .peers)) c w) (ids (s .peers)) xs ks (start (s .conf))
+
+pub enter-few : (s : State) (auto : Bool) (xs ks : List ℕ) → enterIdles s auto xs ks ≤ length xs
+unfolding enterIdles
+enter-few s auto xs ks = call-few (enterJoint s auto xs ks) (λ c w v. isIdle (ids (s .peers)) c w) (ids (s .peers)) xs ks (start (entering (s .conf)))
 
 -- as many changes as ids
 length-same : (xs ks : List ℕ) → length xs ≡ length ks → length (listOf xs ks) ≡ length xs

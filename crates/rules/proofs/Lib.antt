@@ -9,8 +9,8 @@ pub mod Means
 pub mod Steps
 pub mod Order
 pub mod Applied
-pub mod Idle
 pub mod Demand3
+pub mod Idle
 pub mod Records
 pub mod Table
 pub mod Numbers

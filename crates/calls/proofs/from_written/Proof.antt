@@ -15,7 +15,7 @@ returns : tie.Need-returns
 returns c =
     let w = c .before .before .to-conf-state .ensures in
     let l = c .before .new .ensures in
-    λ j. reply (w j .number) (w j .id) false (c .before .before .before .args .t) (l j) (w j .«conf_state»)
+    λ j. reply (w j .number) (w j .id) false (c .before .before .before .args .t) (l j) (w j .«conf_state») 0
 
 pub from-written-spec : {M : Type 1} → statement M
 from-written-spec = tie.close (tie.spec to-conf-state-requires new-requires returns)

@@ -50,7 +50,7 @@ returns-2 c =
     let t = c .before .before .before .before .state .ensures in
     let w = c .before .before .before .before .before .word .ensures in
     let v = c .before .in-order .ensures in
-    c .from-yes .ensures ∙ ap (λ (x : Bool). reply 0 0 x (c .before .before .before .before .state .result) noLog noLists) v ∙ ap (λ (u : Tracker). reply 0 0 (inOrderOf u) u noLog noLists) t ∙ reply-order s (λ e. c .before .before .before .if1 .left (w ∙ e)) (sym w ∙ c .before .before .if2 .taken)
+    c .from-yes .ensures ∙ ap (λ (x : Bool). reply 0 0 x (c .before .before .before .before .state .result) noLog noLists 0) v ∙ ap (λ (u : Tracker). reply 0 0 (inOrderOf u) u noLog noLists 0) t ∙ reply-order s (λ e. c .before .before .before .if1 .left (w ∙ e)) (sym w ∙ c .before .before .if2 .taken)
 
 ask-requires : tie.Need-ask-requires
 ask-requires c κs = search needs

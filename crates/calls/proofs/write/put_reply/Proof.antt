@@ -24,13 +24,16 @@ put-log-requires c κs = search needs
 put-conf-state-requires : tie.Need-put-conf-state-requires
 put-conf-state-requires c κs = search needs
 
+put-word-requires-3 : tie.Need-put-word-requires-3
+put-word-requires-3 c κs = search needs
+
 same-length : tie.Need-same-length
 same-length c = search needs
 
 returns : tie.Need-returns
 returns c =
-    let s = c .before .before .before .before .before .before .before .before .before .before .before .before .before .before .before .before .before .before .before .before .before .before .before .before .before in
-    rw reply-bytes (rest-last (rest-put (rest-put (rest-put (rest-put (rest-put (rest-all (omega (arith, s .good)) (omega (arith, s .good))) (c .before .before .before .before .before .before .before .before .before .before .before .before .before .before .before .before .before .before .before .before .before .before .put-word .ensures)) (c .before .before .before .before .before .before .before .before .before .before .before .before .before .before .before .before .before .before .put-word2 .ensures)) (c .before .before .before .before .before .before .before .before .before .before .before .before .before .before .put-flag .ensures)) (c .before .before .before .before .before .before .before .before .before .before .put-state .ensures)) (c .before .before .before .before .before .before .put-log .ensures)) (c .before .before .put-conf-state .ensures))
+    let s = c .before .before .before .before .before .before .before .before .before .before .before .before .before .before .before .before .before .before .before .before .before .before .before .before .before .before .before .before .before in
+    rw reply-bytes (rest-last (rest-put (rest-put (rest-put (rest-put (rest-put (rest-put (rest-all (omega (arith, s .good)) (omega (arith, s .good))) (c .before .before .before .before .before .before .before .before .before .before .before .before .before .before .before .before .before .before .before .before .before .before .before .before .before .before .put-word .ensures)) (c .before .before .before .before .before .before .before .before .before .before .before .before .before .before .before .before .before .before .before .before .before .before .put-word2 .ensures)) (c .before .before .before .before .before .before .before .before .before .before .before .before .before .before .before .before .before .before .put-flag .ensures)) (c .before .before .before .before .before .before .before .before .before .before .before .before .before .before .put-state .ensures)) (c .before .before .before .before .before .before .before .before .before .before .put-log .ensures)) (c .before .before .before .before .before .before .put-conf-state .ensures)) (c .before .before .put-word3 .ensures))
 
 pub put-reply-spec : {M : Type 1} → statement M
 put-reply-spec =
@@ -42,5 +45,6 @@ put-reply-spec =
     put-state-requires
     put-log-requires
     put-conf-state-requires
+    put-word-requires-3
     same-length
     returns)
