@@ -117,12 +117,14 @@ typedef struct dimecandle_reply {
     dimecandle_state state;
     dimecandle_log log;
     dimecandle_conf_state conf_state;
+    uint64_t idle; /* of an accepted simple or enter_joint: entries of the list that did nothing; else 0 */
 } dimecandle_reply;
 
 static_assert(sizeof(dimecandle_request) == 20216, "a request is 2,527 words");
-static_assert(sizeof(dimecandle_reply) == 13952, "a reply is 1,744 words");
+static_assert(sizeof(dimecandle_reply) == 13960, "a reply is 1,745 words");
 static_assert(offsetof(dimecandle_request, conf_state) == 8 * 2266, "CONFSTATE is the request's last block");
 static_assert(offsetof(dimecandle_reply, conf_state) == 8 * 1483, "CONFSTATE is the reply's last block");
+static_assert(offsetof(dimecandle_reply, idle) == 8 * 1744, "idle is the reply's last word");
 
 /* One call. 0: the reply is written. Else the reply is as it was: 1 the request's length, 2 the reply too short, 3 unknown call,
  * 4 a word that its field cannot hold. */

@@ -1,4 +1,5 @@
-/* Document 01's example 8 from C: a demoted voter is staged, and is a learner once the joint configuration is left.
+/* Document 01's example 8 from C: a demoted voter is staged, and is a learner once the joint configuration is left. Its list has one
+ * entry more, for a box that already stands as asked: that one counts as idle.
  * Build and run it: scripts/embed */
 #include "dimecandle.h"
 
@@ -34,6 +35,7 @@ static void answered(const char *what) {
         printf(" refused %llu id %llu\n", (unsigned long long)reply.number, (unsigned long long)reply.id);
         return;
     }
+    uint64_t idle = reply.idle;
     request.conf = reply.state.conf;
     request.log = reply.log;
     call(DIMECANDLE_APPLY_CONF);
@@ -43,7 +45,7 @@ static void answered(const char *what) {
     show_ids("learners", &request.state.conf.learners);
     show_ids("learners_next", &request.state.conf.learners_next);
     show_ids("tracked", &request.state.tracked);
-    printf("\n");
+    printf(" idle=%llu\n", (unsigned long long)idle);
 }
 
 static void change(uint64_t id, uint64_t kind) {
@@ -63,6 +65,7 @@ int main(void) {
     memset(&request.list, 0, sizeof request.list);
     change(3, DIMECANDLE_ADD_LEARNER_NODE);
     change(4, DIMECANDLE_ADD_NODE);
+    change(2, DIMECANDLE_ADD_NODE);
     call(DIMECANDLE_ENTER_JOINT);
     answered("enter_joint");
     call(DIMECANDLE_SIMPLE);

@@ -1,5 +1,5 @@
 //! Times both sides on the same calls and scripts. The Rust is asked on its own values; the other side is asked through its C entries, so
-//! a call's time has the reading of the request's 20,216 bytes and the writing of the reply's 13,952 in it. A script has neither.
+//! a call's time has the reading of the request's 20,216 bytes and the writing of the reply's 13,960 in it. A script has neither.
 //! Times are of the processor, so that other programs on the machine do not count; the shortest of many batches is shown.
 
 use crate::calls::{APPLY_CONF, CHECK, ENTER_JOINT, LEAVE_JOINT, RESTORE, SIMPLE};

@@ -1,11 +1,12 @@
 //! The calls: each with its number, its arguments, how the paper answers it and how the Rust does.
 //!
 //! To add a call: a row in `CALLS`, and two functions, one on each side. Both get the request and a reply that already gives the state
-//! back with number 0, an empty log and empty lists; they fill in what the call gives. The comparison, the groups that try every small
-//! state, the random ones and the vectors go through the rows of this table: each finds by `takes` what to vary.
+//! back with number 0, an empty log, empty lists and no idle entry; they fill in what the call gives. The comparison, the groups that try
+//! every small state, the random ones and the vectors go through the rows of this table: each finds by `takes` what to vary.
 
+use crate::idle::{self, ListCall};
 use crate::model::{read_log, write_log};
-use crate::model::{Answer, Change, Conf, ConfState, Kind, Model, Refusal, State};
+use crate::model::{Accepted, Answer, Change, Conf, ConfState, Kind, Model, Refusal, State};
 use crate::oracle::{self, Rust};
 use crate::words::{self, Reply, Request, LONGEST_LIST};
 use raft::{Changer, Configuration, MapChange};
@@ -107,9 +108,7 @@ fn paper_simple(model: &Model, request: &Request, reply: &mut Reply) {
 }
 
 fn rust_simple(rust: &mut Rust, request: &Request, reply: &mut Reply) {
-    let list = oracle::changes(request.list.changes());
-    let answer = Changer::new(rust.tracker(&request.state)).simple(&list);
-    rust_answer(answer, reply);
+    rust_list_call(rust, ListCall::Simple, request, reply);
 }
 
 fn paper_enter_joint(model: &Model, request: &Request, reply: &mut Reply) {
@@ -118,9 +117,16 @@ fn paper_enter_joint(model: &Model, request: &Request, reply: &mut Reply) {
 }
 
 fn rust_enter_joint(rust: &mut Rust, request: &Request, reply: &mut Reply) {
+    rust_list_call(rust, ListCall::EnterJoint { auto_leave: request.auto_leave == 1 }, request, reply);
+}
+
+/// The Rust has no count of its own: it is worked out where the whole list is accepted.
+fn rust_list_call(rust: &mut Rust, call: ListCall, request: &Request, reply: &mut Reply) {
     let list = oracle::changes(request.list.changes());
-    let answer = Changer::new(rust.tracker(&request.state)).enter_joint(request.auto_leave == 1, &list);
-    rust_answer(answer, reply);
+    rust_answer(call.ask(rust.tracker(&request.state), &list), reply);
+    if reply.number == 0 {
+        reply.idle = idle::count(rust, &request.state, call, &list);
+    }
 }
 
 fn paper_leave_joint(model: &Model, request: &Request, reply: &mut Reply) {
@@ -219,9 +225,10 @@ fn settle(result: Result<(), Refusal>, reply: &mut Reply) {
 fn answer(answer: Answer, reply: &mut Reply) {
     match answer {
         Err(refusal) => settle(Err(refusal), reply),
-        Ok((conf, log)) => {
+        Ok(Accepted { conf, log, idle }) => {
             conf.write(&mut reply.state.conf);
             write_log(&log, &mut reply.log);
+            reply.idle = idle as u64;
         }
     }
 }

@@ -5,7 +5,7 @@
 
 use crate::calls::{self, in_domain, same_group};
 use crate::model::Model;
-use crate::oracle::{rust_listing, Rust};
+use crate::oracle::{rust_listing, Entries, Rust};
 use crate::script::{LONGEST_SCRIPT, NO_ROOM, TOO_LONG};
 use crate::show;
 use crate::subject::Subject;
@@ -122,6 +122,11 @@ impl<'a> Comparison<'a> {
         rust.giving_back(&request.state);
         (call.rust)(&mut self.rust, request, rust);
         (paper, Some(rust))
+    }
+
+    /// How the entries of the accepted lists were judged.
+    pub fn entries(&self) -> &Entries {
+        &self.rust.entries
     }
 
     pub fn call_difference(&mut self, request: &Request) -> Option<Difference> {

@@ -6,8 +6,8 @@
 //!
 //! fn add_first_voter() -> Result<Tracker, Refused> {
 //!     let mut tracker = Tracker::new(256);
-//!     let (conf, changes) = tracker.simple(&[ConfChangeSingle::add_node(1)])?;
-//!     tracker.apply_conf(conf, changes, 10)?;
+//!     let answer = tracker.simple(&[ConfChangeSingle::add_node(1)])?;
+//!     tracker.apply_conf(answer.conf, answer.changes, 10)?;
 //!     Ok(tracker)
 //! }
 //! ```
@@ -109,6 +109,17 @@ pub enum MapChangeType {
 /// Which boxes an answer begins or ceases to track, in order: for `apply_conf`.
 pub type MapChange = Vec<(u64, MapChangeType)>;
 
+/// What `simple`, `enter_joint` and `leave_joint` answer: the new configuration and what to track, for `apply_conf`; and how many entries of
+/// the list did nothing.
+#[derive(Clone, Debug, PartialEq, Eq)]
+pub struct Answer {
+    pub conf: Configuration,
+    pub changes: MapChange,
+    /// Entries of the list that at their turn found their box standing as asked, and put nothing into `changes`. Those with `node_id` 0
+    /// are among them. Of `leave_joint`, which has no list, 0.
+    pub idle: u64,
+}
+
 /// Why a call was refused: the number, and the id that it concerns, else 0. `to_string` says it in words.
 #[derive(Clone, Copy, Debug, PartialEq, Eq)]
 pub struct Refused {
@@ -153,25 +164,25 @@ impl Tracker {
         Tracker { max_inflight, ..Tracker::default() }
     }
 
-    /// A list of changes that changes at most one incoming voter in all. The answer is the new configuration and what to track, for
-    /// `apply_conf`; the tracker itself stays as it is.
-    pub fn simple(&self, changes: &[ConfChangeSingle]) -> Result<(Configuration, MapChange), Refused> {
+    /// A list of changes that changes at most one incoming voter in all. The answer is for `apply_conf`; the tracker itself stays as it
+    /// is.
+    pub fn simple(&self, changes: &[ConfChangeSingle]) -> Result<Answer, Refused> {
         let mut request = Request::of(SIMPLE, self);
         request.list(changes);
-        Ok(request.answer()?.configuration_and_log())
+        Ok(request.answer()?.changed())
     }
 
     /// Enters a joint configuration by a list of changes. Answers as `simple` does.
-    pub fn enter_joint(&self, auto_leave: bool, changes: &[ConfChangeSingle]) -> Result<(Configuration, MapChange), Refused> {
+    pub fn enter_joint(&self, auto_leave: bool, changes: &[ConfChangeSingle]) -> Result<Answer, Refused> {
         let mut request = Request::of(ENTER_JOINT, self);
         request.words[REQUEST_FLAG] = u64::from(auto_leave);
         request.list(changes);
-        Ok(request.answer()?.configuration_and_log())
+        Ok(request.answer()?.changed())
     }
 
     /// Leaves a joint configuration. Answers as `simple` does.
-    pub fn leave_joint(&self) -> Result<(Configuration, MapChange), Refused> {
-        Ok(Request::of(LEAVE_JOINT, self).answer()?.configuration_and_log())
+    pub fn leave_joint(&self) -> Result<Answer, Refused> {
+        Ok(Request::of(LEAVE_JOINT, self).answer()?.changed())
     }
 
     /// Takes over an answer: the configuration, and a fresh record, with this `next_idx`, for each box that is added.
@@ -263,9 +274,10 @@ const REPLY_YES: usize = 2;
 const REPLY_STATE: usize = 3;
 const REPLY_LOG: usize = REPLY_STATE + STATE;
 const REPLY_CONF_STATE: usize = REPLY_LOG + LOG;
-const REPLY: usize = REPLY_CONF_STATE + CONF;
+const REPLY_IDLE: usize = REPLY_CONF_STATE + CONF;
+const REPLY: usize = REPLY_IDLE + 1;
 
-const _: () = assert!(REQUEST == 2_527 && REPLY == 1_744);
+const _: () = assert!(REQUEST == 2_527 && REPLY == 1_745);
 
 struct Request {
     words: Vec<u64>,
@@ -315,8 +327,12 @@ impl Request {
 }
 
 impl Reply {
-    fn configuration_and_log(&self) -> (Configuration, MapChange) {
-        (configuration(&self.words[REPLY_STATE..]), log(&self.words[REPLY_LOG..]))
+    fn changed(&self) -> Answer {
+        Answer {
+            conf: configuration(&self.words[REPLY_STATE..]),
+            changes: log(&self.words[REPLY_LOG..]),
+            idle: self.words[REPLY_IDLE],
+        }
     }
 
     fn tracker(&self) -> Tracker {

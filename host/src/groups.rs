@@ -3,6 +3,7 @@
 
 mod bytes;
 mod examples;
+mod idle;
 mod limits;
 mod random;
 mod restores;
@@ -48,7 +49,7 @@ pub struct Group {
 }
 
 #[rustfmt::skip]
-pub const GROUPS: [Group; 26] = [
+pub const GROUPS: [Group; 28] = [
     Group { name: "calls: the examples of document 01", entry: Entry::Call, run: examples::examples },
     Group { name: "calls: every state over two ids, every list of up to two changes", entry: Entry::Call, run: states::two_ids },
     Group { name: "calls: every state over three ids, every single change", entry: Entry::Call, run: states::three_ids },
@@ -65,6 +66,8 @@ pub const GROUPS: [Group; 26] = [
     Group { name: "calls: lists of 250 to 260", entry: Entry::Call, run: limits::long_lists },
     Group { name: "calls: 60 to 64 tracked, room freed and used", entry: Entry::Call, run: limits::full },
     Group { name: "calls: ids 0 and 2^64 - 1", entry: Entry::Call, run: limits::ends },
+    Group { name: "idle entries: examples worked by hand", entry: Entry::Call, run: idle::examples },
+    Group { name: "idle entries: the Rust's prefixes plainly and with repairs", entry: Entry::Call, run: idle::both_ways },
     Group { name: "bytes: lengths, unknown calls, words that no field can hold", entry: Entry::Call, run: bytes::bytes },
     Group { name: "wrapper: dimecandle.rs on random states", entry: Entry::Wrapper, run: wrapper::wrapper },
     Group { name: "scripts: the listing of document 01", entry: Entry::Replay, run: scripts::example },

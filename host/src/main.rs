@@ -13,6 +13,8 @@ mod generate;
 #[cfg(rust_text)]
 mod groups;
 #[cfg(rust_text)]
+mod idle;
+#[cfg(rust_text)]
 mod model;
 #[cfg(rust_text)]
 mod oracle;

@@ -9,7 +9,7 @@ mod rules;
 mod values;
 mod wrong;
 
-pub use rules::{Answer, Change, Kind};
+pub use rules::{Accepted, Answer, Change, Kind};
 pub use values::{read_log, write_log, Conf, ConfState, Entry, Refusal, State};
 pub use wrong::Wrong;
 
@@ -56,7 +56,7 @@ impl Machine for Replayed {
         };
         match answer {
             Err(refusal) => Line::Refused { number: refusal.number, id: refusal.id },
-            Ok((conf, log)) => {
+            Ok(Accepted { conf, log, .. }) => {
                 let line = Line::of(&conf, &log);
                 let _ = self.model.apply_conf(&mut self.state, conf, &log, next_idx);
                 line

@@ -10,6 +10,16 @@ use raft::{bridge, Changer, Configuration, Error, MapChange, MapChangeType, Prog
 #[derive(Default)]
 pub struct Rust {
     last: Option<(Box<words::State>, ProgressTracker)>,
+    /// the same state's with one more incoming voter, and that voter
+    last_with_voter: Option<(u64, ProgressTracker)>,
+    pub entries: Entries,
+}
+
+/// How many entries of accepted lists were looked at, in each of the two ways of idle.rs.
+#[derive(Default)]
+pub struct Entries {
+    pub plainly: u64,
+    pub repaired: u64,
 }
 
 impl Rust {
@@ -18,16 +28,50 @@ impl Rust {
         let known = matches!(&self.last, Some((last, _)) if **last == *state);
         if !known {
             self.last = Some((Box::new(*state), tracker(state)));
+            self.last_with_voter = None;
         }
         &self.last.as_ref().expect("just set").1
+    }
+
+    /// The text's tracker for a well-formed state with one more incoming voter, which neither the state nor the list has.
+    pub fn tracker_with_voter(&mut self, state: &words::State, list: &[ConfChangeSingle]) -> &ProgressTracker {
+        self.tracker(state);
+        let known = matches!(&self.last_with_voter, Some((voter, _)) if !names(list, *voter));
+        if !known {
+            let voter = new_id(state, list);
+            self.last_with_voter = Some((voter, with_voter(state, voter)));
+        }
+        &self.last_with_voter.as_ref().expect("just set").1
     }
 }
 
 // ** Words to the text's values
 
 pub fn tracker(state: &words::State) -> ProgressTracker {
-    let records = state.tracked.used().iter().zip(&state.records).map(|(&id, record)| (id, progress(record)));
-    bridge::tracker(configuration(&state.conf), records, state.max_inflight as usize)
+    bridge::tracker(configuration(&state.conf), records(state), state.max_inflight as usize)
+}
+
+fn records(state: &words::State) -> impl Iterator<Item = (u64, Progress)> + '_ {
+    state.tracked.used().iter().zip(&state.records).map(|(&id, record)| (id, progress(record)))
+}
+
+/// The tracker of a state that also has this incoming voter. Windows are of no account to a list, so they get no room.
+fn with_voter(state: &words::State, voter: u64) -> ProgressTracker {
+    let [incoming, outgoing, learners, learners_next] = state.conf.sets().map(Ids::used);
+    let incoming = [incoming, &[voter]].concat();
+    let conf = bridge::configuration(&incoming, outgoing, learners, learners_next, state.conf.auto_leave == 1);
+    let record = progress(&words::Record::zero());
+    bridge::tracker(conf, records(state).chain([(voter, record)]), 0)
+}
+
+/// The least id that neither the state nor the list has.
+fn new_id(state: &words::State, list: &[ConfChangeSingle]) -> u64 {
+    let known = |id| state.conf.sets().iter().any(|set| set.used().contains(&id)) || state.tracked.used().contains(&id);
+    (1..).find(|&id| !known(id) && !names(list, id)).expect("there are more ids than a state and a list hold")
+}
+
+fn names(list: &[ConfChangeSingle], id: u64) -> bool {
+    list.iter().any(|change| change.node_id == id)
 }
 
 pub fn configuration(conf: &words::Conf) -> Configuration {

@@ -3,6 +3,7 @@
 use crate::compare::{Comparison, Failure};
 use crate::groups::{Entry, Group, Size, GROUPS};
 use crate::model::Model;
+use crate::oracle::Entries;
 use crate::random::Random;
 use crate::shrink::smallest;
 use crate::subject::{Linked, Subject, CALLS_LINKED, LISTING_LINKED};
@@ -159,6 +160,8 @@ fn every_number_met(comparison: &Comparison) -> bool {
     let met: Vec<String> = numbers.iter().enumerate().map(|(number, count)| format!("{number}: {count}")).collect();
     println!("answers by number: {}", met.join(", "));
     println!("the Rust named another fault of the group than the paper {} times", comparison.other_fault);
+    let Entries { plainly, repaired } = comparison.entries();
+    println!("entries of accepted lists: {plainly} judged by plain prefixes, {repaired} with one more voter and repairs");
     let as_it_should = numbers.iter().enumerate().all(|(number, &count)| (count > 0) == (number != 13));
     println!("{}  every number was met but 13, which was not", if as_it_should { "passed" } else { "FAILED" });
     as_it_should

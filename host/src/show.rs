@@ -130,6 +130,7 @@ fn parts(reply: &Reply) -> Vec<(String, String)> {
     parts.push(("max_inflight".to_string(), reply.state.max_inflight.to_string()));
     parts.push(("log".to_string(), log(&reply.log)));
     parts.push(("lists".to_string(), conf_state(&reply.conf_state)));
+    parts.push(("idle entries".to_string(), reply.idle.to_string()));
     parts
 }
 

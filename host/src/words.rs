@@ -109,10 +109,12 @@ pub struct Reply {
     pub state: State,
     pub log: Log,
     pub conf_state: ConfState,
+    /// entries of the list that left their id's standing unchanged and logged nothing
+    pub idle: u64,
 }
 
 pub const REQUEST_BYTES: usize = 20_216;
-pub const REPLY_BYTES: usize = 13_952;
+pub const REPLY_BYTES: usize = 13_960;
 const _: () = assert!(size_of::<Request>() == REQUEST_BYTES && size_of::<Reply>() == REPLY_BYTES);
 
 /// A struct of nothing but `u64`.
@@ -264,9 +266,9 @@ impl Request {
 }
 
 impl Reply {
-    /// What a refusal gives back, before its number and id: the state given, an empty log, empty lists.
+    /// What a refusal gives back, before its number and id: the state given, an empty log, empty lists, no idle entry.
     pub fn giving_back(&mut self, state: &State) {
-        (self.number, self.id, self.yes) = (0, 0, 0);
+        (self.number, self.id, self.yes, self.idle) = (0, 0, 0, 0);
         self.state = *state;
         self.log = Log::zero();
         self.conf_state = ConfState::zero();

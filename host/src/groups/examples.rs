@@ -20,15 +20,15 @@ enum Do {
 
 use Do::{Check, Enter, Leave, Restore, Simple};
 
-fn add(id: u64) -> Change {
+pub fn add(id: u64) -> Change {
     (id, ADD_NODE)
 }
 
-fn remove(id: u64) -> Change {
+pub fn remove(id: u64) -> Change {
     (id, REMOVE_NODE)
 }
 
-fn learner(id: u64) -> Change {
+pub fn learner(id: u64) -> Change {
     (id, ADD_LEARNER_NODE)
 }
 

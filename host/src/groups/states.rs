@@ -76,7 +76,7 @@ pub fn lists_of<T: Copy>(items: &[T], longest: usize) -> Vec<Vec<T>> {
 }
 
 /// Every change of one of these ids.
-fn changes_of(ids: &[u64]) -> Vec<Change> {
+pub fn changes_of(ids: &[u64]) -> Vec<Change> {
     ids.iter().flat_map(|&id| (0..3).map(move |kind| (id, kind))).collect()
 }
 
@@ -111,7 +111,7 @@ fn takes_list(call: &Call) -> bool {
     matches!(call.takes, Takes::List | Takes::ListAndFlag)
 }
 
-fn passes(request: &Request) -> bool {
+pub fn passes(request: &Request) -> bool {
     State::read(&request.state).is_some_and(|state| Model::PAPER.checked(&state).is_ok())
 }
 

@@ -4,8 +4,7 @@ use super::Size;
 use crate::calls::*;
 use crate::compare::{agrees, Against, Compared, Comparison, Difference, Failure, Input};
 use crate::dimecandle::{
-    ConfChangeSingle, ConfChangeType, ConfState, Configuration, MapChange, MapChangeType, Progress, ProgressState, Refused,
-    Tracker,
+    Answer, ConfChangeSingle, ConfChangeType, ConfState, Configuration, MapChangeType, Progress, ProgressState, Refused, Tracker,
 };
 use crate::generate;
 use crate::model;
@@ -102,10 +101,11 @@ fn through_the_wrapper(request: &Request) -> Reply {
     reply
 }
 
-fn answer(answer: Result<(Configuration, MapChange), Refused>, reply: &mut Reply) -> Result<(), Refused> {
-    let (conf, log) = answer?;
+fn answer(answer: Result<Answer, Refused>, reply: &mut Reply) -> Result<(), Refused> {
+    let Answer { conf, changes, idle } = answer?;
     write_configuration(&conf, &mut reply.state.conf);
-    let entries: Vec<Entry> = log.iter().map(|(id, kind)| Entry { id: *id, kind: *kind as u64 }).collect();
+    reply.idle = idle;
+    let entries: Vec<Entry> = changes.iter().map(|(id, kind)| Entry { id: *id, kind: *kind as u64 }).collect();
     reply.log = Log::of(&entries);
     Ok(())
 }

@@ -3,7 +3,7 @@
 use super::{Model, Replayed, Wrong};
 use crate::calls;
 use crate::script::{listing, LONGEST_SCRIPT, NO_ROOM, TOO_LONG};
-use crate::words::{Block, Conf, Log, Reply, Request, State, LIST_PLACES, REPLY_BYTES, REQUEST_BYTES};
+use crate::words::{Block, Conf, List, Log, Reply, Request, State, LIST_PLACES, REPLY_BYTES, REQUEST_BYTES};
 
 impl Model {
     /// `dimecandle_call`
@@ -25,6 +25,9 @@ impl Model {
         (call.paper)(self, &words, &mut answer);
         if self.has(Wrong::VacatedPlaceKeepsRecord) {
             keep_vacated(&words.state, &mut answer.state);
+        }
+        if self.has(Wrong::RefusedListIsCounted) && matches!(answer.number, 17 | 18) {
+            answer.idle = zeros(&words.list);
         }
         reply[..REPLY_BYTES].copy_from_slice(answer.bytes());
         0
@@ -78,6 +81,11 @@ fn conf_holdable(conf: &Conf) -> bool {
 
 fn log_holdable(log: &Log) -> bool {
     log.entries.iter().all(|entry| entry.kind <= 1)
+}
+
+/// Only a wrong rule does this: entries with id 0 are counted as the list is read.
+fn zeros(list: &List) -> u64 {
+    list.used_ids().iter().filter(|&&id| id == 0).count() as u64
 }
 
 /// Only a wrong rule does this: the last place that is no longer used keeps what it held.

@@ -29,7 +29,15 @@ pub struct Change {
     pub kind: Kind,
 }
 
-pub type Answer = Result<(Conf, Vec<Entry>), Refusal>;
+/// What `simple`, `enter_joint` and `leave_joint` give.
+pub struct Accepted {
+    pub conf: Conf,
+    pub log: Vec<Entry>,
+    /// "the number of list entries that left their id's standing unchanged and logged nothing, id 0 included"; a leave has no list
+    pub idle: usize,
+}
+
+pub type Answer = Result<Accepted, Refusal>;
 
 fn refuse(when: bool, number: u64) -> Result<(), Refusal> {
     if when {
@@ -86,6 +94,16 @@ fn cell(standing: Standing, kind: Kind) -> (Standing, Effect) {
     TABLE[standing as usize][column]
 }
 
+/// Only a wrong rule does this: an id's standing as it would be if no voter were outgoing.
+fn without_outgoing(standing: Standing) -> Standing {
+    match standing {
+        O => Idle,
+        IO => I,
+        OS => L,
+        other => other,
+    }
+}
+
 /// The configuration and the log while a list is carried out.
 struct Work<'a> {
     base: &'a BTreeMap<u64, words::Record>,
@@ -93,13 +111,15 @@ struct Work<'a> {
     log: Vec<Entry>,
     /// how many ids are tracked at this moment
     tracked: usize,
+    /// how many entries of the list did nothing so far
+    idle: usize,
     /// how many entries of the list changed incoming; only a wrong rule asks
     moved: usize,
 }
 
 impl<'a> Work<'a> {
     fn new(state: &'a State, conf: Conf) -> Work<'a> {
-        Work { base: &state.tracked, conf, log: vec![], tracked: state.tracked.len(), moved: 0 }
+        Work { base: &state.tracked, conf, log: vec![], tracked: state.tracked.len(), idle: 0, moved: 0 }
     }
 
     /// "Tracked is asked of the base ids with the pending log over them, the last entry for the id deciding."
@@ -250,9 +270,11 @@ impl Model {
     fn change(&self, work: &mut Work, change: Change) -> Result<(), Refusal> {
         let Change { id, kind } = change;
         if id == 0 && !self.has(Wrong::ZeroIsABox) {
+            work.idle += usize::from(!self.has(Wrong::ZeroIsNotCounted));
             return Ok(());
         }
         let before = work.standing(self, id);
+        work.idle += usize::from(self.is_idle(before, kind));
         let (after, mut effect) = cell(before, kind);
         if effect == LogAdd && work.tracked >= CAPACITY {
             refuse(self.has(Wrong::SeventeenBeforeSixteen) && work.conf.incoming.is_empty(), 17)?;
@@ -268,12 +290,33 @@ impl Model {
         Ok(())
     }
 
+    /// Document 02, b): "left their id's standing unchanged and logged nothing", "read off document 01's table, taken from each entry's
+    /// standing at its turn".
+    fn is_idle(&self, before: Standing, kind: Kind) -> bool {
+        let before = if self.has(Wrong::IdleWithoutOutgoing) { without_outgoing(before) } else { before };
+        let (after, effect) = cell(before, kind);
+        if self.has(Wrong::IdleBySets) {
+            return after == before || (before, after) == (Idle, Standing::None);
+        }
+        if self.has(Wrong::IdleByLog) {
+            return effect == Nothing;
+        }
+        after == before && effect == Nothing && !(before == OS && self.has(Wrong::StagedAgainIsAChange))
+    }
+
+    /// Only a wrong rule does this: the standings are those before the list.
+    fn idle_at_the_start(&self, start: &Work, list: &[Change]) -> usize {
+        list.iter().filter(|change| change.id == 0 || self.is_idle(start.standing(self, change.id), change.kind)).count()
+    }
+
     /// "the changes, stopping at the first 16; 17"
     fn changes<'a>(&self, state: &'a State, conf: Conf, list: &[Change]) -> Result<Work<'a>, Refusal> {
         let mut work = Work::new(state, conf);
+        let at_the_start = self.has(Wrong::IdleAtTheStart).then(|| self.idle_at_the_start(&work, list));
         for &change in list {
             self.change(&mut work, change)?;
         }
+        work.idle = at_the_start.unwrap_or(work.idle);
         let tested = !(self.has(Wrong::EmptyListAccepted) && list.is_empty());
         refuse(tested && work.conf.incoming.is_empty(), 17)?;
         Ok(work)
@@ -282,7 +325,7 @@ impl Model {
     /// "the check again", over the pending log.
     fn finish(&self, work: Work) -> Answer {
         self.check(&work.conf, &|id| work.is_tracked(id))?;
-        Ok((work.conf, work.log))
+        Ok(Accepted { conf: work.conf, log: work.log, idle: work.idle })
     }
 
     // ** The three calls
@@ -381,7 +424,7 @@ impl Model {
 
     /// One step of `restore`, applied.
     fn step(&self, state: &mut State, next_idx: u64, answer: Answer) -> Result<(), Refusal> {
-        let (conf, log) = answer?;
+        let Accepted { conf, log, .. } = answer?;
         self.apply_conf(state, conf, &log, next_idx)
     }
 

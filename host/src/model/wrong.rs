@@ -1,5 +1,5 @@
-//! Rules that are wrong on purpose. Document 01, "Errors a porter would make", and others of the kind. Each is one test in
-//! model/rules.rs or model/entries.rs.
+//! Rules that are wrong on purpose. Document 01, "Errors a porter would make", and others of the kind, also for the count of document 02's
+//! b). Each is one test in model/rules.rs or model/entries.rs.
 
 /// One wrong rule; `sentence` says which.
 #[derive(Clone, Copy, Debug, PartialEq, Eq)]
@@ -26,12 +26,19 @@ pub enum Wrong {
     VacatedPlaceKeepsRecord,
     PendingAtEndSilent,
     ExactFitRefused,
+    IdleBySets,
+    IdleByLog,
+    IdleWithoutOutgoing,
+    IdleAtTheStart,
+    StagedAgainIsAChange,
+    ZeroIsNotCounted,
+    RefusedListIsCounted,
 }
 
 use Wrong::*;
 
 impl Wrong {
-    pub const ALL: [Wrong; 22] = [
+    pub const ALL: [Wrong; 29] = [
         CountsChanges,
         TwelveAsTheTextSays,
         CancelsInTheLog,
@@ -54,6 +61,13 @@ impl Wrong {
         VacatedPlaceKeepsRecord,
         PendingAtEndSilent,
         ExactFitRefused,
+        IdleBySets,
+        IdleByLog,
+        IdleWithoutOutgoing,
+        IdleAtTheStart,
+        StagedAgainIsAChange,
+        ZeroIsNotCounted,
+        RefusedListIsCounted,
     ];
 
     pub fn sentence(self) -> &'static str {
@@ -80,6 +94,13 @@ impl Wrong {
             VacatedPlaceKeepsRecord => "a vacated place keeps a record",
             PendingAtEndSilent => "changes pending at the script's end print nothing",
             ExactFitRefused => "a listing that just fits is refused with 20",
+            IdleBySets => "an entry is idle if no set changed, though it logged",
+            IdleByLog => "an entry is idle if it logged nothing, though its id's standing changed",
+            IdleWithoutOutgoing => "in enter_joint an entry's standing is taken as if incoming had not been copied to outgoing",
+            IdleAtTheStart => "an entry's standing is taken before the list, and not at its turn",
+            StagedAgainIsAChange => "AddLearnerNode of a staged id is no idle entry, since it is taken out and put back",
+            ZeroIsNotCounted => "an entry with id 0 does not count as idle",
+            RefusedListIsCounted => "a list refused with 17 or 18 counts its entries with id 0",
         }
     }
 

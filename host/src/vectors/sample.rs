@@ -16,7 +16,8 @@ pub struct Taken {
     pub scripts: Vec<Vec<u8>>,
 }
 
-/// Calls that a group gives of one kind: the same call, answered with the same number. The paper's examples are all taken.
+/// Calls that a group gives of one kind: the same call, answered with the same number. Examples, the paper's and those worked by hand, are
+/// all taken.
 const CALLS_OF_A_KIND: usize = 1;
 const EXAMPLES: usize = 100;
 
