@@ -99,7 +99,7 @@ pub fn examples(comparison: &mut Comparison, _: &mut Random, _: Size) -> Compare
                 request.call = call;
                 comparison.call(&request)?;
                 let reply = comparison.expected(&request).0;
-                agree(&request, "the table", (reply.number, reply.idle), expected)?;
+                agree(&request, Against::Paper, (reply.number, reply.idle), expected)?;
             }
         }
     }
@@ -133,14 +133,14 @@ fn judged_twice(comparison: &mut Comparison, rust: &mut Rust, request: &Request,
     (comparison.inputs, comparison.with_rust) = (comparison.inputs + 1, comparison.with_rust + 1);
     comparison.accepted += 1;
     let repaired = count_repaired(rust, &request.state, call, request.list.changes());
-    agree(request, "the Rust with repairs", idle(plainly), idle(repaired))
+    agree(request, Against::Rust, idle(plainly), idle(repaired))
 }
 
-fn agree(request: &Request, says: &str, given: Given, expected: Given) -> Compared {
+fn agree(request: &Request, against: Against, given: Given, expected: Given) -> Compared {
     if given == expected {
         return Ok(());
     }
-    let what = format!("number and idle entries {given:?}, by {says} {expected:?}");
+    let what = format!("number and idle entries: {given:?}, expected {expected:?}");
     let input = Input::Other(show::request(request));
-    Err(Box::new(Failure { input, difference: Difference { against: Against::Paper, what } }))
+    Err(Box::new(Failure { input, difference: Difference { against, what } }))
 }
