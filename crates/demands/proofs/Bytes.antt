@@ -8,6 +8,7 @@ use borrow.Author.Tests.{ltb-true}
 use lib.Dec.{eqb, ltb}
 use lib.ListN.{length}
 use Rattle.rules.specs.Calls.{enterJoint, leaveJoint, simple}
+use Rattle.rules.specs.Idle.{enterIdles, simpleIdles}
 use Rattle.tracker.specs.Apply.{applyOf}
 use Rattle.tracker.specs.Bridge.{changeLogOf, stateOf}
 use Rattle.tracker.specs.ConfStates.{writtenOf}
@@ -56,34 +57,34 @@ module _ (s : List ℕ) where
   abbrev t : Tracker
   t = stateAt s 1
 
-  -- refused, a reply has the state of the request and an empty log
+  -- refused, a reply has the state of the request, an empty log and 0
   abbrev Leaves : Reply → Type 0
-  Leaves r = eqb (r .number) 0 ≡ false → (r .tracker ≡ t) × (r .log ≡ changeLogOf [])
+  Leaves r = eqb (r .number) 0 ≡ false → (r .tracker ≡ t) × (r .log ≡ changeLogOf []) × (r .idle ≡ 0)
 
   answered : (a : Answer) → AnswerUntouched t a → Leaves (fromAnswer t a)
-  answered a u h = (ap (withConf t) (u h .0), u h .1)
+  answered a u h = (ap (withConf t) (u h .0), u h .1, u h .2)
 
   left : (o : Outcome) → StateUntouched t o → Leaves (fromOutcome o)
-  left o u h = (u h, refl)
+  left o u h = (u h, refl, refl)
 
   -- which of them it is
   one : (b0 b1 b2 b3 b4 b5 b6 : Bool) → (b0 || (b1 || (b2 || (b3 || (b4 || (b5 || b6)))))) ≡ true
       → Leaves
       (cond b0 (fromVerdict t (checkOf t))
-      (cond b1 (reply 0 0 (inOrderOf t) t noLog noLists)
+      (cond b1 (reply 0 0 (inOrderOf t) t noLog noLists 0)
       (cond b2 (fromAnswer t (simpleAnswer t (idsIn s) (kindsIn s)))
       (cond b3 (fromAnswer t (enterAnswer t (flag (word s 968)) (idsIn s) (kindsIn s)))
       (cond b4 (fromAnswer t (leaveAnswer t))
       (cond b5 (fromOutcome (applyOf t (confAt s 1492) (logAt s 1753) (word s 969)))
       (cond b6 (fromWritten t (writtenOf t)) (fromOutcome (restoreOf t (confStateAt s 2266) (word s 969))))))))))
   unfolding simpleAnswer enterAnswer leaveAnswer
-  one true b1 b2 b3 b4 b5 b6 e h = (refl, refl)
-  one false true b2 b3 b4 b5 b6 e h = (refl, refl)
-  one false false true b3 b4 b5 b6 e h = answered (simpleAnswer t (idsIn s) (kindsIn s)) (asked-untouched t (simple (stateOf t) (idsIn s) (kindsIn s))) h
-  one false false false true b4 b5 b6 e h = answered (enterAnswer t (flag (word s 968)) (idsIn s) (kindsIn s)) (asked-untouched t (enterJoint (stateOf t) (flag (word s 968)) (idsIn s) (kindsIn s))) h
-  one false false false false true b5 b6 e h = answered (leaveAnswer t) (asked-untouched t (leaveJoint (stateOf t))) h
+  one true b1 b2 b3 b4 b5 b6 e h = (refl, refl, refl)
+  one false true b2 b3 b4 b5 b6 e h = (refl, refl, refl)
+  one false false true b3 b4 b5 b6 e h = answered (simpleAnswer t (idsIn s) (kindsIn s)) (asked-untouched t (simpleIdles (stateOf t) (idsIn s) (kindsIn s)) (simple (stateOf t) (idsIn s) (kindsIn s))) h
+  one false false false true b4 b5 b6 e h = answered (enterAnswer t (flag (word s 968)) (idsIn s) (kindsIn s)) (asked-untouched t (enterIdles (stateOf t) (flag (word s 968)) (idsIn s) (kindsIn s)) (enterJoint (stateOf t) (flag (word s 968)) (idsIn s) (kindsIn s))) h
+  one false false false false true b5 b6 e h = answered (leaveAnswer t) (asked-untouched t 0 (leaveJoint (stateOf t))) h
   one false false false false false true b6 e h = left (applyOf t (confAt s 1492) (logAt s 1753) (word s 969)) (apply-untouched t (confAt s 1492) (logAt s 1753) (word s 969)) h
-  one false false false false false false true e h = (refl, refl)
+  one false false false false false false true e h = (refl, refl, refl)
   one false false false false false false false e h = absurd (false≢true e)
 
   pub call : ltb (word s 0) 7 ≡ true → Leaves (replyTo s)

@@ -1,6 +1,7 @@
 pub mod Restorable
 pub mod Carried
 pub mod Boxes
+pub mod Counts
 pub mod Others
 pub mod RoundTrip
 pub mod Late

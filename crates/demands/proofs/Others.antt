@@ -11,6 +11,7 @@ use Rattle.progress.specs.Record.{freshRecord}
 use Rattle.progress.specs.declared.Progress.{Progress}
 use Rattle.rules.specs.State.{Change, formed}
 use Rattle.rules.specs.Calls.{enterJoint, kindOf, listOf, simple}
+use Rattle.rules.specs.Idle.{enterIdles, simpleIdles}
 use Rattle.rules.specs.Boxes.{Event, entered, naming, replay}
 use Rattle.rules.specs.Answers as R
 use Rattle.rules.specs.Answers.{accepted, refused}
@@ -56,21 +57,21 @@ module _ (t : Tracker) (h : inOrderOf t ≡ true) (n x : ℕ) where
   f = tracker-formed t w
 
   -- an accepted answer is applied
-  applies : (a : R.Answer) → Fits (stateOf t) n a → answerOf (t .conf) a .number ≡ 0 → appliedTo t (answerOf (t .conf) a) n .number ≡ 0
+  applies : (i : ℕ) (a : R.Answer) → Fits (stateOf t) n a → answerOf (t .conf) i a .number ≡ 0 → appliedTo t (answerOf (t .conf) i a) n .number ≡ 0
   unfolding Fits
-  applies a k e = ap (λ (o : Outcome). o .number) (applied-same t w n a k) ∙ go a k e
+  applies i a k e = ap (λ (o : Outcome). o .number) (applied-same t w n i a k) ∙ go a k e
     where
-      go : (a : R.Answer) → Fits (stateOf t) n a → answerOf (t .conf) a .number ≡ 0 → outcomeOf (applyAnswer (stateOf t) n a) .number ≡ 0
+      go : (a : R.Answer) → Fits (stateOf t) n a → answerOf (t .conf) i a .number ≡ 0 → outcomeOf (applyAnswer (stateOf t) n a) .number ≡ 0
       go (accepted c log) k e = rw (k .done)
       go (refused m y) k e = e
 
   simple-applies : (ids kinds : List ℕ) → simpleAnswer t ids kinds .number ≡ 0 → appliedTo t (simpleAnswer t ids kinds) n .number ≡ 0
   unfolding simpleAnswer
-  simple-applies ids kinds e = rw w (applies (simple (stateOf t) ids kinds) (simple-fits (stateOf t) n f ids kinds) (rw w at e))
+  simple-applies ids kinds e = rw w (applies (simpleIdles (stateOf t) ids kinds) (simple (stateOf t) ids kinds) (simple-fits (stateOf t) n f ids kinds) (rw w at e))
 
   enter-applies : (auto : Bool) (ids kinds : List ℕ) → enterAnswer t auto ids kinds .number ≡ 0 → appliedTo t (enterAnswer t auto ids kinds) n .number ≡ 0
   unfolding enterAnswer
-  enter-applies auto ids kinds e = rw w (applies (enterJoint (stateOf t) auto ids kinds) (enter-fits (stateOf t) n f auto ids kinds) (rw w at e))
+  enter-applies auto ids kinds e = rw w (applies (enterIdles (stateOf t) auto ids kinds) (enterJoint (stateOf t) auto ids kinds) (enter-fits (stateOf t) n f auto ids kinds) (rw w at e))
 
   abbrev r : Progress
   r = freshRecord n (t .«max_inflight»)

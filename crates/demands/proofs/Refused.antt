@@ -48,16 +48,16 @@ accepts t = record { number = 0; id = 0; tracker = t }
 module _ (t : Tracker) where
   -- ** simple, enter_joint, leave_joint
 
-  answer-untouched : (a : R.Answer) → AnswerUntouched t (answerOf (t .conf) a)
-  answer-untouched (accepted c log) h = absurd (true≢false h)
-  answer-untouched (refused n x) h = (refl, refl)
+  answer-untouched : (i : ℕ) (a : R.Answer) → AnswerUntouched t (answerOf (t .conf) i a)
+  answer-untouched i (accepted c log) h = absurd (true≢false h)
+  answer-untouched i (refused n x) h = (refl, refl, refl)
 
-  pub asked-untouched : (a : R.Answer) → AnswerUntouched t (ifFormed t a)
-  asked-untouched a = go (trackerWellFormed t)
+  pub asked-untouched : (i : ℕ) (a : R.Answer) → AnswerUntouched t (ifFormed t i a)
+  asked-untouched i a = go (trackerWellFormed t)
     where
-      go : (b : Bool) → AnswerUntouched t (cond b (answerOf (t .conf) a) (answerOf (t .conf) (refused 1 0)))
-      go true = answer-untouched a
-      go false = answer-untouched (refused 1 0)
+      go : (b : Bool) → AnswerUntouched t (cond b (answerOf (t .conf) i a) (answerOf (t .conf) 0 (refused 1 0)))
+      go true = answer-untouched i a
+      go false = answer-untouched 0 (refused 1 0)
 
   -- ** apply, apply_answer
 

@@ -7,16 +7,18 @@ use mathlib.Core.List.{List}
 use lib.Dec.{eqb}
 use Rattle.rules.specs.State.{fresh}
 use Rattle.rules.specs.Calls.{enterJoint, leaveJoint, simple}
+use Rattle.rules.specs.Idle.{enterIdles, simpleIdles}
 use Rattle.tracker.specs.Bridge.{stateOf, trackerOf}
 use Rattle.tracker.specs.declared.Tracker.{Tracker}
 use Rattle.tracker.specs.declared.Verdict.{Verdict}
 use Rattle.invariants.specs.Check.{inOrderOf}
 use Rattle.changer.specs.Calls.{enterAnswer, leaveAnswer, simpleAnswer}
 use Rattle.demands.specs.Sequences.{Call, afterCalls}
-use Rattle.demands.specs.Demands.{ComesBack, Kept}
+use Rattle.demands.specs.Demands.{ComesBack, Counted, Kept}
 use Rattle.demands.specs.Statements.{OthersAlterNeither, RefusedUntouched}
 use Rattle.demands.proofs.Boxes.{kept}
 use Rattle.demands.proofs.Bytes.{call, no-call, replay-no-room, replay-too-long}
+use Rattle.demands.proofs.Counts.{all-counted}
 use Rattle.demands.proofs.Others.{others}
 use Rattle.demands.proofs.Refused.{applied-untouched, apply-untouched, asked-untouched, restore-stays, restore-untouched, written-nothing}
 use Rattle.demands.proofs.Restorable.{restored-runs}
@@ -29,9 +31,9 @@ pub refused-untouched : (t : Tracker) → RefusedUntouched t
 unfolding simpleAnswer enterAnswer leaveAnswer
 refused-untouched t =
     record {
-      simple = λ ids kinds. asked-untouched t (simple (stateOf t) ids kinds);
-      enter = λ auto ids kinds. asked-untouched t (enterJoint (stateOf t) auto ids kinds);
-      leave = asked-untouched t (leaveJoint (stateOf t));
+      simple = λ ids kinds. asked-untouched t (simpleIdles (stateOf t) ids kinds) (simple (stateOf t) ids kinds);
+      enter = λ auto ids kinds. asked-untouched t (enterIdles (stateOf t) auto ids kinds) (enterJoint (stateOf t) auto ids kinds);
+      leave = asked-untouched t 0 (leaveJoint (stateOf t));
       apply-answer = applied-untouched t;
       apply = apply-untouched t;
       apply-conf = λ c log n v u p q h. q ∙ apply-untouched t c log n (ap (λ (v : Verdict). eqb (v .number) 0) (sym p) ∙ h);
@@ -59,6 +61,11 @@ boxes = kept
 -- Demand 3: "In an accepted list, changes naming other boxes alter neither."
 pub others-alter-neither : (t : Tracker) → inOrderOf t ≡ true → (n x : ℕ) → OthersAlterNeither t n x
 others-alter-neither = others
+
+-- Document 02, b): "Each accepted `simple` and `enter_joint` then also gives the number of list entries that left their id's standing unchanged and
+-- logged nothing".
+pub counted : (t : Tracker) → Counted t
+counted = all-counted
 
 -- Document 01: "That any two results allowed by it are equal is itself proved".
 pub settled : Settled

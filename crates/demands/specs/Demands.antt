@@ -1,20 +1,23 @@
 -- The demands as statements about trackers; proofs/Theorems.antt proves them. Assumes nothing.
-use Prim.Native.Nat.{ℕ}
+use Prim.Native.Nat.{ℕ, _-_, _≤_}
 use mathlib.Core.Path.{_≡_}
-use mathlib.Core.Bool.{true, false}
+use mathlib.Core.Bool.{Bool, true, false}
 use mathlib.Core.List.{List, []}
 use lib.Dec.{eqb}
+use lib.ListN.{length}
 use Rattle.progress.specs.Record.{freshRecord}
 use Rattle.rules.specs.Ids.{memb}
 use Rattle.rules.specs.State.{fresh, members}
 use Rattle.rules.specs.Table.{placesOf, placesIn}
 use Rattle.rules.specs.Boxes.{found, recordOf, replay, events}
+use Rattle.rules.specs.Idle.{enterWorks, simpleWorks}
 use Rattle.idset.specs.Set.{held}
-use Rattle.tracker.specs.Bridge.{confOf, peersOf, trackerOf, changeLogOf}
+use Rattle.tracker.specs.Bridge.{confOf, peersOf, stateOf, trackerOf, changeLogOf}
 use Rattle.tracker.specs.ConfStates.{writtenOf}
 use Rattle.tracker.specs.declared.Tracker.{Tracker}
 use Rattle.tracker.specs.declared.Outcome.{Outcome}
 use Rattle.invariants.specs.Check.{inOrderOf}
+use Rattle.changer.specs.Calls.{enterAnswer, leaveAnswer, simpleAnswer}
 use Rattle.changer.specs.declared.Answer.{Answer}
 use Rattle.restore.specs.Restore.{restoreOf}
 use Rattle.demands.specs.Sequences.{Call, afterCalls, deeds, boxIn}
@@ -38,9 +41,18 @@ pub record ComesBack (t : Tracker) (l n : ℕ) : Type 0 where
       → recordOf x (peersOf (held (t .ids)) (restoreOf (trackerOf (fresh l)) (writtenOf t .«conf_state») n .tracker .records)) ≡ found (freshRecord n l)
   pub inflight : restoreOf (trackerOf (fresh l)) (writtenOf t .«conf_state») n .tracker .«max_inflight» ≡ l
 
--- Demand 1: "A refused call gives the number .., with state and lent memory untouched."
+-- Demand 1: "A refused call gives the number .., with state and lent memory untouched." Document 02, b): "a refused call gives 0".
 abbrev pub AnswerUntouched : Tracker → Answer → Type 0
-AnswerUntouched t a = eqb (a .number) 0 ≡ false → (a .conf ≡ t .conf) × (a .log ≡ changeLogOf [])
+AnswerUntouched t a = eqb (a .number) 0 ≡ false → (a .conf ≡ t .conf) × (a .log ≡ changeLogOf []) × (a .idle ≡ 0)
 
 abbrev pub StateUntouched : Tracker → Outcome → Type 0
 StateUntouched t o = eqb (o .number) 0 ≡ false → o .tracker ≡ t
+
+-- Document 02, b), of the calls made of t: what an accepted list is answered as `idle` is its length less the entries that moved their id or
+-- logged, and those are no more than it is long. A leave has no list.
+pub record Counted (t : Tracker) : Type 0 where
+  pub simple : (ids kinds : List ℕ) → simpleAnswer t ids kinds .number ≡ 0
+      → (simpleAnswer t ids kinds .idle ≡ length ids - simpleWorks (stateOf t) ids kinds) × (simpleWorks (stateOf t) ids kinds ≤ length ids)
+  pub enter : (auto : Bool) (ids kinds : List ℕ) → enterAnswer t auto ids kinds .number ≡ 0
+      → (enterAnswer t auto ids kinds .idle ≡ length ids - enterWorks (stateOf t) auto ids kinds) × (enterWorks (stateOf t) auto ids kinds ≤ length ids)
+  pub leave : leaveAnswer t .idle ≡ 0

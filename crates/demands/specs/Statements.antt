@@ -64,7 +64,7 @@ pub record Stays (t : Tracker) (cs : ConfState) (n : ℕ) : Type 0 where
 
 -- Every public call that can be refused, made of t.
 pub record RefusedUntouched (t : Tracker) : Type 0 where
-  -- changer: the configuration given and an empty log
+  -- changer: the configuration given, an empty log and 0
   pub simple : (ids kinds : List ℕ) → AnswerUntouched t (simpleAnswer t ids kinds)
   pub enter : (auto : Bool) (ids kinds : List ℕ) → AnswerUntouched t (enterAnswer t auto ids kinds)
   pub leave : AnswerUntouched t (leaveAnswer t)
@@ -85,7 +85,7 @@ pub record RefusedUntouched (t : Tracker) : Type 0 where
   pub too-long : (script out : List ℕ) → ltb 65536 (length script) ≡ true → (replayAnswer script (length out) ≡ 2 ^ 32 + 19) × (replayLeaves script out ≡ out)
   pub no-room : (script out : List ℕ) → ltb 65536 (length script) ≡ false → ltb (length out) (length (listing script)) ≡ true
       → (replayAnswer script (length out) ≡ 2 ^ 32 + 20) × (replayLeaves script out ≡ out)
-  -- dimecandle_call: a request that is refused as such leaves the lent reply as it was; a refused call, restore's own excepted, replies the state of the request
-  -- and an empty log
+  -- dimecandle_call: a request that is refused as such leaves the lent reply as it was; a refused call, restore's own excepted, replies the state of the request,
+  -- an empty log and 0
   pub no-call : (request reply : List ℕ) → eqb (callAnswer request (length reply)) 0 ≡ false → callLeaves request reply ≡ reply
-  pub call : (request : List ℕ) → ltb (word request 0) 7 ≡ true → eqb (replyTo request .number) 0 ≡ false → (replyTo request .tracker ≡ stateAt request 1) × (replyTo request .log ≡ changeLogOf [])
+  pub call : (request : List ℕ) → ltb (word request 0) 7 ≡ true → eqb (replyTo request .number) 0 ≡ false → (replyTo request .tracker ≡ stateAt request 1) × (replyTo request .log ≡ changeLogOf []) × (replyTo request .idle ≡ 0)
