@@ -90,30 +90,44 @@ fn standing(conf: Configuration, tracked: bool, id: u64) -> table::Standing
 fn moved(w: Work, id: u64, to: table::Move) -> Work
     ensures { λ r. ⌜ r ≡ movedIn id to w ⌝ }
 {
-    let log = w.log;
     let n = w.tracked;
-    let idle = w.idle;
-    let effect = to.effect;
     let next = to.next;
-    let placed = place(w.conf, id, next);
-    let conf = placed.conf;
+    let effect = to.effect;
     match effect {
-        table::Effect::Stays => done(conf, log, n, idle_after(idle, placed.changed)),
+        table::Effect::Stays => {
+            let placed = place(w.conf, id, next);
+            done(placed.conf, w.log, n, idle_after(w.idle, placed.changed))
+        }
         table::Effect::Adds => {
             if 64 <= n {
-                let mut full = w;
-                full.full = true;
-                full.id = id;
-                return full;
+                let conf = w.conf;
+                let log = w.log;
+                return Work {
+                    conf,
+                    log,
+                    tracked: n,
+                    idle: w.idle,
+                    full: true,
+                    id,
+                };
             }
-            done(conf, push(log, id, MapChangeType::Add), n + 1, idle)
+            let placed = place(w.conf, id, next);
+            done(
+                placed.conf,
+                push(w.log, id, MapChangeType::Add),
+                n + 1,
+                w.idle,
+            )
         }
-        table::Effect::Removes => done(
-            conf,
-            push(log, id, MapChangeType::Remove),
-            less(n),
-            idle,
-        ),
+        table::Effect::Removes => {
+            let placed = place(w.conf, id, next);
+            done(
+                placed.conf,
+                push(w.log, id, MapChangeType::Remove),
+                less(n),
+                w.idle,
+            )
+        }
     }
 }
 

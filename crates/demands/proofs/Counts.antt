@@ -49,8 +49,8 @@ module _ (t : Tracker) where
   all-counted =
       record {
         simple = λ ids kinds. rest (length ids) (simpleIdles (stateOf t) ids kinds) (simpleWorks (stateOf t) ids kinds) (simple (stateOf t) ids kinds)
-        (λ c log. simple-counts (stateOf t) ids kinds c log) (λ w. simple-fits (stateOf t) 0 (tracker-formed t w) ids kinds);
+            (λ c log. simple-counts (stateOf t) ids kinds c log) (λ w. simple-fits (stateOf t) 0 (tracker-formed t w) ids kinds);
         enter = λ auto ids kinds. rest (length ids) (enterIdles (stateOf t) auto ids kinds) (enterWorks (stateOf t) auto ids kinds) (enterJoint (stateOf t) auto ids kinds)
-        (λ c log. enter-counts (stateOf t) ids kinds c log auto) (λ w. enter-fits (stateOf t) 0 (tracker-formed t w) auto ids kinds);
+            (λ c log. enter-counts (stateOf t) ids kinds c log auto) (λ w. enter-fits (stateOf t) 0 (tracker-formed t w) auto ids kinds);
         leave = none (leaveJoint (stateOf t));
       }
