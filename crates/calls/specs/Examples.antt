@@ -3,10 +3,13 @@ use mathlib.Core.Path.{_≡_, refl}
 use mathlib.Core.Bool.{true, false}
 use mathlib.Core.List.{[], _∷_}
 use lib.ListN.{replicate}
+use Rattle.idset.specs.declared.IdSet.{IdSet}
+use Rattle.tracker.specs.declared.IdList.{IdList}
 use Rattle.tracker.specs.declared.MapChangeType.the-variants.{Remove}
+use Rattle.tracker.specs.declared.Tracker.{Tracker}
 use Rattle.calls.specs.Layout.{number, word, words, within}
-use Rattle.calls.specs.Reply.{bytes, wordBytes, allBytes, entriesWords, logWords}
-use Rattle.calls.specs.Call.{callAnswer, callLeaves}
+use Rattle.calls.specs.Reply.{bytes, wordBytes, allBytes, confWords, recordsWords, stateWords, entriesWords, logWords, confStateWords}
+use Rattle.calls.specs.Call.{callAnswer, callLeaves, reply, replyWords}
 
 -- not the most significant byte first; a byte that is not there counts as 0
 pub numbers : (number 2 (1 ∷ 2 ∷ []) 0 ≡ 513) × (number 2 (7 ∷ 1 ∷ 2 ∷ []) 1 ≡ 513) × (number 8 (1 ∷ 2 ∷ []) 0 ≡ 513)
@@ -26,6 +29,28 @@ word-places = (refl, refl)
 pub log-places : logWords (record { entries = record { id = 5; kind = Remove } ∷ []; count = 9 }) ≡ 5 ∷ 1 ∷ 9 ∷ []
 unfolding entriesWords logWords
 log-places = refl
+
+-- sets and arrays of no places: number, id and yes come first, then the state, the log and the lists; how many entries did nothing comes last
+abbrev noSet : IdSet
+noSet = record { ids = []; len = 0 }
+
+abbrev noList : IdList
+noList = record { ids = []; len = 0 }
+
+abbrev little : Tracker
+little =
+    record {
+      conf = record { incoming = noSet; outgoing = noSet; learners = noSet; «learners_next» = noSet; «auto_leave» = false };
+      ids = noSet;
+      records = [];
+      «max_inflight» = 3;
+    }
+
+pub reply-places :
+    replyWords (reply 5 6 true little (record { entries = []; count = 4 }) (record { voters = noList; learners = noList; «voters_outgoing» = noList; «learners_next» = noList; «auto_leave» = true }) 9)
+    ≡ 5 ∷ 6 ∷ 1 ∷ 0 ∷ 0 ∷ 0 ∷ 0 ∷ 0 ∷ 0 ∷ 3 ∷ 4 ∷ 0 ∷ 0 ∷ 0 ∷ 0 ∷ 1 ∷ 9 ∷ []
+unfolding replyWords stateWords confWords recordsWords logWords entriesWords confStateWords
+reply-places = refl
 
 -- a flag of 1 can be held and one of 2 not; a kind of 255 can be and one of 256 not, though its least significant byte is 0
 pub held : (within 1 1 1 (1 ∷ []) 0 ≡ true) × (within 1 1 1 (2 ∷ []) 0 ≡ false) × (within 2 255 1 (allBytes (0 ∷ 255 ∷ [])) 0 ≡ true) × (within 2 255 1 (allBytes (0 ∷ 256 ∷ [])) 0 ≡ false)
