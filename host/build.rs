@@ -4,12 +4,14 @@
 //! stands; OUT_DIR gets symbolic links to them, in the layout that rustc looks for. With it, `--cfg rust_text`.
 //!
 //! The libraries: `libcalls.a` and `liblisting.a` in the folder named by DIMECANDLE_LIBS, else in the repository's target/staticlib.
-//! With one, `--cfg libcalls` or `--cfg liblisting`; without it the model of the paper stands in its place.
+//! With one, `--cfg libcalls` or `--cfg liblisting`; without it the model of the paper stands in its place. Their code is for x86-64:
+//! where this is built for another processor, `--cfg emulated`, and each is put into a program for the emulator instead of this one.
 
 use std::env;
 use std::fs;
 use std::os::unix::fs::symlink;
 use std::path::{Path, PathBuf};
+use std::process::Command;
 
 /// The files of the text, and where each stands for rustc: a module that is named by `#[path]` has its own modules beside it.
 const TEXT: [(&str, &str); 8] = [
@@ -30,13 +32,13 @@ const DOORS: [(&str, &str); 2] = [("confchange/changer.rs", "changer.rs"), ("tra
 const STAND_INS: [&str; 2] = ["quorum/joint.rs", "quorum/majority.rs"];
 
 fn main() {
-    for name in ["rust_text", "libcalls", "liblisting"] {
+    for name in ["rust_text", "libcalls", "liblisting", "emulated"] {
         println!("cargo::rustc-check-cfg=cfg({name})");
     }
     let package = PathBuf::from(env::var_os("CARGO_MANIFEST_DIR").expect("cargo names the package"));
     text(&package);
-    for name in ["calls", "listing"] {
-        library(&package, name);
+    for (name, entry) in [("calls", "dimecandle_call"), ("listing", "dimecandle_replay")] {
+        library(&package, name, entry);
     }
 }
 
@@ -88,11 +90,57 @@ fn lay_out(package: &Path, source: &Path) {
     fs::write(text.join("modules.rs"), modules).expect("OUT_DIR can be written");
 }
 
-fn library(package: &Path, name: &str) {
+/// Puts the library behind its entry's name, or says why it is not there.
+fn library(package: &Path, name: &str, entry: &str) {
     let file = folder(package, "DIMECANDLE_LIBS", "../target/staticlib").join(format!("lib{name}.a"));
     println!("cargo::rerun-if-changed={}", file.display());
-    if let Ok(file) = file.canonicalize() {
-        println!("cargo::rustc-cfg=lib{name}");
-        println!("cargo::rustc-link-arg-bins={}", file.display());
+    let for_x86_64 = env::var("CARGO_CFG_TARGET_ARCH").expect("cargo names it") == "x86_64";
+    let missing = match file.canonicalize() {
+        Err(_) => format!("lib{name}.a was not found when this was built"),
+        Ok(file) if for_x86_64 => {
+            println!("cargo::rustc-cfg=lib{name}");
+            println!("cargo::rustc-link-arg-bins={}", file.display());
+            String::new()
+        }
+        Ok(file) => match in_a_program(package, name, entry, &file) {
+            Err(words) => format!("lib{name}.a could not be run when this was built ({words})"),
+            Ok(()) => {
+                println!("cargo::rustc-cfg=lib{name}");
+                println!("cargo::rustc-cfg=emulated");
+                String::new()
+            }
+        },
+    };
+    println!("cargo::rustc-env={}_MISSING={missing}", name.to_uppercase());
+}
+
+/// Puts the library into a program of its own, emulated.c, for the emulator.
+fn in_a_program(package: &Path, name: &str, entry: &str, library: &Path) -> Result<(), String> {
+    let [compiler, emulator] = ["x86-64-cc", "x86-64"].map(|script| package.join("../scripts").join(script));
+    let source = package.join("emulated.c");
+    for file in [&compiler, &emulator, &source] {
+        println!("cargo::rerun-if-changed={}", file.display());
+    }
+    for variable in ["RATTLE_HOME", "PATH"] {
+        println!("cargo::rerun-if-env-changed={variable}");
+    }
+    let program = PathBuf::from(env::var_os("OUT_DIR").expect("cargo names it")).join(name);
+    carry_out(Command::new(compiler).arg(&program).arg(source).arg(format!("-DENTRY={entry}")).arg(library))?;
+    // without input it ends at once
+    carry_out(Command::new(&emulator).arg(&program))?;
+    println!("cargo::rustc-env=EMULATOR={}", emulator.display());
+    println!("cargo::rustc-env={}_PROGRAM={}", name.to_uppercase(), program.display());
+    Ok(())
+}
+
+/// Runs a script of the repository: what it says, where that is that it cannot run here.
+fn carry_out(script: &mut Command) -> Result<(), String> {
+    const CANNOT_RUN: i32 = 77;
+    let done = script.output().expect("the repository has the script");
+    let said = String::from_utf8_lossy(&done.stderr);
+    match done.status.code() {
+        Some(0) => Ok(()),
+        Some(CANNOT_RUN) => Err(said.lines().last().unwrap_or_default().to_string()),
+        _ => panic!("{script:?} failed\n{said}"),
     }
 }

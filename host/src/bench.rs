@@ -6,8 +6,9 @@ use crate::calls::{APPLY_CONF, CHECK, ENTER_JOINT, LEAVE_JOINT, RESTORE, SIMPLE}
 use crate::compare::Comparison;
 use crate::groups::scripts::script;
 use crate::oracle::{self, Replaying};
+use crate::run::CANNOT_RUN;
 use crate::script::{listing, ENTER, LEAVE, LONGEST_SCRIPT, RECORD, SIMPLE as RUN};
-use crate::subject::{Linked, Subject, CALLS_LINKED, LISTING_LINKED};
+use crate::subject::{say_missing, Linked, Subject, EMULATED};
 use crate::words::{Block, Change, Ids, List, Record, Request, ADD_LEARNER_NODE, ADD_NODE, REMOVE_NODE, REPLY_BYTES};
 use raft::eraftpb::ConfChangeSingle;
 use raft::{Changer, ProgressTracker};
@@ -16,11 +17,11 @@ use std::process::ExitCode;
 use std::time::Duration;
 
 pub fn run() -> ExitCode {
-    for (linked, name) in [(CALLS_LINKED, "libcalls.a"), (LISTING_LINKED, "liblisting.a")] {
-        if !linked {
-            println!("{name} was not found when this was built: its times are those of the model of the paper");
-        }
+    if EMULATED {
+        println!("host: the static libraries are emulated here, and times of emulated code mean nothing");
+        return ExitCode::from(CANNOT_RUN);
     }
+    say_missing("its times are those of the model of the paper");
     println!("{:52}{:>12}{:>12}{:>9}", "", "Rust", "other", "ratio");
     the_layout();
     for size in [3, 5, 16, 64] {

@@ -233,8 +233,9 @@ unsafe extern "C" {
     fn dimecandle_call(request: *const u8, request_len: usize, reply: *mut u8, reply_len: usize) -> u64;
 }
 
-#[cfg(not(all(target_arch = "x86_64", target_endian = "little")))]
-compile_error!("libcalls.a is for x86-64");
+// A word is handed over as it lies in memory. That libcalls.a is for x86-64 the linker says.
+#[cfg(not(target_endian = "little"))]
+compile_error!("libcalls.a is for x86-64: its words are little-endian");
 
 const CHECK: u64 = 0;
 const IN_ORDER: u64 = 1;

@@ -8,6 +8,8 @@ mod calls;
 mod compare;
 #[cfg(rust_text)]
 mod dimecandle;
+#[cfg(all(rust_text, emulated))]
+mod emulated;
 #[cfg(rust_text)]
 mod generate;
 #[cfg(rust_text)]

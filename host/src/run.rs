@@ -6,7 +6,7 @@ use crate::model::Model;
 use crate::oracle::Entries;
 use crate::random::Random;
 use crate::shrink::smallest;
-use crate::subject::{Linked, Subject, CALLS_LINKED, LISTING_LINKED};
+use crate::subject::{Linked, Subject, CALLS_LINKED, CALLS_MISSING, EMULATED, LISTING_LINKED, LISTING_MISSING};
 use crate::{bench, show, stack, vectors, wrong};
 use std::process::ExitCode;
 use std::time::Instant;
@@ -26,10 +26,11 @@ const HELP: &str = "host: the proved code beside the Rust that it was carried ov
   host stack      measures the peak stack of each entry
   host --help     prints this
 
-Exit status: 0 all passed, 1 something differs, 2 bad usage, 77 it cannot run here (no Rust text, no static library).
+Exit status: 0 all passed, 1 something differs, 2 bad usage, 77 it cannot run here (no Rust text, no static library; of bench
+also: emulated libraries).
 ";
 
-const CANNOT_RUN: u8 = 77;
+pub const CANNOT_RUN: u8 = 77;
 const USAGE: u8 = 2;
 
 pub fn command(words: Vec<String>) -> ExitCode {
@@ -84,28 +85,36 @@ impl Options {
     }
 }
 
-fn linked(entry: Entry) -> bool {
+/// Why the library of an entry is not there; empty where it is.
+fn missing(entry: Entry) -> &'static str {
     match entry {
-        Entry::Call | Entry::Wrapper => CALLS_LINKED,
-        Entry::Replay => LISTING_LINKED,
+        Entry::Call | Entry::Wrapper => CALLS_MISSING,
+        Entry::Replay => LISTING_MISSING,
     }
 }
 
 fn compare(options: &Options) -> ExitCode {
     if !options.model && !CALLS_LINKED && !LISTING_LINKED {
-        println!("host: neither libcalls.a nor liblisting.a was found when this was built, so there is nothing to compare");
-        println!("host: `rt staticlib calls` and `rt staticlib listing` make them; --model compares the model of the paper");
+        for why in [CALLS_MISSING, LISTING_MISSING] {
+            println!("host: {why}");
+        }
+        println!("host: there is nothing to compare; `rt staticlib calls` and `rt staticlib listing` make the libraries");
+        println!("host: --model compares the model of the paper");
         return ExitCode::from(CANNOT_RUN);
     }
-    let subject: &dyn Subject = if options.model { &Model::PAPER } else { &Linked };
-    let name = if options.model { "the model of the paper" } else { "the static libraries" };
+    let (subject, name): (&dyn Subject, _) = match (options.model, EMULATED) {
+        (true, _) => (&Model::PAPER, "the model of the paper"),
+        (false, true) => (&Linked, "the static libraries, emulated"),
+        (false, false) => (&Linked, "the static libraries"),
+    };
     println!("the Rust in {} beside {name}, seed {}", env!("RAFT_SRC_TRIED"), options.seed);
 
     let mut comparison = Comparison::new(subject);
     let (mut passed, mut failed, mut all_run) = (0, 0, true);
     for group in GROUPS.iter().filter(|group| options.runs(group.name)) {
-        if !options.model && !linked(group.entry) {
-            println!("not run {}: its static library is not there", group.name);
+        let missing = if options.model { "" } else { missing(group.entry) };
+        if !missing.is_empty() {
+            println!("not run {}: {missing}", group.name);
             all_run = false;
         } else if run_group(&mut comparison, group, options) {
             passed += 1;

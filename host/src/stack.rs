@@ -1,10 +1,13 @@
 //! The peak stack of each entry: it is run on a thread whose stack was filled with a pattern, and what it wrote over is looked for.
+//! Of an emulated library the program around it does the same (emulated.c).
 
 use crate::calls::CALLS;
+#[cfg(emulated)]
+use crate::emulated;
 use crate::generate;
 use crate::groups::scripts::{longest_listing, script};
 use crate::random::Random;
-use crate::subject::{Linked, Subject, CALLS_LINKED, LISTING_LINKED};
+use crate::subject::{say_missing, Linked, Subject};
 use crate::words::{Block, Request, CAPACITY, REPLY_BYTES};
 use std::process::ExitCode;
 use std::thread;
@@ -20,11 +23,7 @@ const MARGIN: usize = 2 << 10;
 const PATTERN: u64 = 0x5eed_5eed_5eed_5eed;
 
 pub fn run() -> ExitCode {
-    for (linked, name) in [(CALLS_LINKED, "libcalls.a"), (LISTING_LINKED, "liblisting.a")] {
-        if !linked {
-            println!("{name} was not found when this was built: its entry is the model of the paper");
-        }
-    }
+    say_missing("its entry is the model of the paper");
     for call in &CALLS {
         report(&format!("dimecandle_call, {}", call.name), peak_of_call(call.number));
     }
@@ -59,8 +58,21 @@ fn peak_of_call(number: u64) -> usize {
     most
 }
 
-/// How far below the caller's frame `work` writes.
+#[cfg(not(emulated))]
+use self::peak_here as peak;
+
+/// As far as an emulated library wrote below its caller's frame; where `work` asked none, as far as `work` did here.
+#[cfg(emulated)]
 fn peak(work: impl FnOnce() + Send) -> usize {
+    let mut here = 0;
+    match emulated::peak(|| here = peak_here(work)) {
+        0 => here,
+        emulated => emulated,
+    }
+}
+
+/// How far below the caller's frame `work` writes.
+fn peak_here(work: impl FnOnce() + Send) -> usize {
     thread::scope(|scope| {
         let worker = thread::Builder::new().stack_size(STACK).spawn_scoped(scope, || measured(work)).expect("a thread");
         worker.join().expect("the entry returns")

@@ -10,12 +10,26 @@ pub trait Subject {
     fn replay(&self, script: &[u8], out: &mut [u8]) -> u64;
 }
 
-/// The entries that this program is linked with.
+/// The entries, under their C names.
 pub struct Linked;
 
-/// Which of the static libraries are linked. In the place of a missing one the model has the entry's name.
+/// Which of the static libraries are behind these names. In the place of a missing one the model has the name.
 pub const CALLS_LINKED: bool = cfg!(libcalls);
 pub const LISTING_LINKED: bool = cfg!(liblisting);
+
+/// Whether those that are there are emulated: emulated.rs has the names then, and no library is part of this program.
+pub const EMULATED: bool = cfg!(emulated);
+
+/// Why a library is not there; empty where it is.
+pub const CALLS_MISSING: &str = env!("CALLS_MISSING");
+pub const LISTING_MISSING: &str = env!("LISTING_MISSING");
+
+/// Says of each library that is not there why, and what that means.
+pub fn say_missing(meaning: &str) {
+    for why in [CALLS_MISSING, LISTING_MISSING].iter().filter(|why| !why.is_empty()) {
+        println!("{why}: {meaning}");
+    }
+}
 
 mod c {
     extern "C" {

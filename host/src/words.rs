@@ -1,7 +1,7 @@
 //! The byte layout of `dimecandle_call`: docs/EMBEDDING.md, block by block.
 //!
-//! Every block is a `#[repr(C)]` struct of `u64`, so a value of it is its own bytes on x86-64. A flag, a state or a kind is kept as the
-//! whole word that it travels in: these types also hold what is malformed, and words that no field can hold.
+//! Every block is a `#[repr(C)]` struct of `u64`, so a value of it is its own bytes on a little-endian processor. A flag, a state or a
+//! kind is kept as the whole word that it travels in: these types also hold what is malformed, and words that no field can hold.
 
 use std::mem::size_of;
 use std::slice;
