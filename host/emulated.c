@@ -14,12 +14,12 @@ void free(void *memory);
 long read(int file, void *to, word length);
 long write(int file, const void *from, word length);
 
-/* Memory that grows as it is needed. */
 struct room {
     byte *bytes;
     word length;
 };
 
+/* Makes the room at least so long, whatever was in it; 0 where there is no memory. */
 static int grow(struct room *room, word length) {
     if (room->bytes == 0 || room->length < length) {
         free(room->bytes);
@@ -29,7 +29,7 @@ static int grow(struct room *room, word length) {
     return room->bytes != 0;
 }
 
-/* Whether so many bytes could be read: not at the end of the input. */
+/* Reads so many bytes, however few come at a time; 0 where the input ends before. */
 static int take(void *to, word length) {
     for (word done = 0; done < length;) {
         long more = read(0, (byte *)to + done, length - done);
@@ -39,6 +39,7 @@ static int take(void *to, word length) {
     return 1;
 }
 
+/* Writes so many bytes, however few go at a time; 0 where that fails. */
 static int give(const void *from, word length) {
     for (word done = 0; done < length;) {
         long more = write(1, (const byte *)from + done, length - done);
@@ -48,7 +49,8 @@ static int give(const void *from, word length) {
     return 1;
 }
 
-/* The stack is measured as src/stack.rs does it: filled with a pattern up to a margin, which has the frames of the functions here. */
+/* The stack is measured as in src/stack.rs: it is filled with a pattern below a margin, which has the frames of the functions here, and what
+ * the entry wrote over is looked for. */
 enum { FILLED = 4 << 20, MARGIN = 2 << 10 };
 static const word PATTERN = 0x5eed5eed5eed5eed;
 
