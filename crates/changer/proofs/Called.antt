@@ -85,9 +85,9 @@ module _ (t : Tracker) (auto : Bool) (xs ks : List ℕ) {v : Verdict} (e : v ≡
     unfolding enterIn
     enter-list g k = given-goes (t .conf) _ e h (on-stops (t .conf) (λ a. againIn (t .ids) (t .conf) (withAutoIn auto a)) (rw d at f) g k) ∙ enter-same t auto xs ks
 
-    pub enter-again : a .number ≡ 0 → {b : Answer} → b ≡ withAutoIn auto a → r ≡ againIn (t .ids) (t .conf) b → r ≡ enterAnswer t auto xs ks
+    pub enter-again : a .number ≡ 0 → r ≡ againIn (t .ids) (t .conf) (withAutoIn auto a) → r ≡ enterAnswer t auto xs ks
     unfolding enterIn
-    enter-again g p k = given-goes (t .conf) _ e h (on-goes (t .conf) (λ a. againIn (t .ids) (t .conf) (withAutoIn auto a)) (rw d at f) g (rw p at k)) ∙ enter-same t auto xs ks
+    enter-again g k = given-goes (t .conf) _ e h (on-goes (t .conf) (λ a. againIn (t .ids) (t .conf) (withAutoIn auto a)) (rw d at f) g k) ∙ enter-same t auto xs ks
 
 -- ** leave_joint
 

@@ -24,8 +24,9 @@ formedThen t v = cond (trackerWellFormed t) (verdictOf v) (verdictOf (fault 1 0)
 abbrev pub ownCheck : Tracker → rules.Verdict
 ownCheck t = checkWalk (held (t .ids)) (confOf (t .conf))
 
-abbrev pub readableIn : Tracker → List ℕ → List ℕ → Verdict
-readableIn t ids kinds = formedThen t (readable ids kinds)
+-- 2, 3
+abbrev pub readableIn : List ℕ → List ℕ → Verdict
+readableIn ids kinds = verdictOf (readable ids kinds)
 
 -- a kind above 2
 unfoldable pub anyAbove2 : List ℕ → Bool

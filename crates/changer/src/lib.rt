@@ -16,13 +16,12 @@ ghost use mathlib.Core.Path.{_≡_};
 ghost use mathlib.Core.Bool.{false, _||_, cond};
 ghost use Prim.Native.Nat.{min};
 ghost use Rattle.rules.specs.Calls as rules;
-ghost use Rattle.idset.specs.Places.{twoApart};
 ghost use Rattle.idset.specs.Set.{held};
 ghost use Rattle.tracker.specs.Bridge.{entryOf, logOf, changeLogOf};
 ghost use Rattle.changes.specs.Change.{pushIn};
 ghost use Rattle.changer.specs.Calls.{enterAnswer, leaveAnswer, simpleAnswer};
 ghost use Rattle.changer.specs.Before.{readableIn, anyAbove2, mayEnter, mayLeave, maySimple};
-ghost use Rattle.changer.specs.Stages.{refusedIn, acceptedIn, enteringIn, withAutoIn, carriedIn, againIn, pendingOne, pendingIn, leavingIn, goneWalk};
+ghost use Rattle.changer.specs.Stages.{refusedIn, acceptedIn, enteringIn, carriedIn, againIn, pendingOne, pendingIn, leavingIn, goneWalk};
 
 // What a call answers: number and id, 0 where it is accepted; then the new configuration, the log and how many entries of the list did nothing, else
 // the configuration given, no log and 0.
@@ -46,11 +45,12 @@ pub fn enter_joint<'a>(t: Tracker, auto_leave: bool, ids: &'a [u64], kinds: &'a 
     if v.number != numbers::ACCEPTED {
         return refused(conf, v.number, v.id);
     }
-    let a = carry_out(tracked, entering(conf), ids, kinds);
+    let mut a = carry_out(tracked, entering(conf), ids, kinds);
     if a.number != numbers::ACCEPTED {
         return refused(conf, a.number, a.id);
     }
-    check_again(tracked, conf, with_auto(a, auto_leave))
+    a.conf.auto_leave = auto_leave;
+    check_again(tracked, conf, a)
 }
 
 // Transitions out of a joint configuration: the outgoing majority config is removed, that is, the incoming config is promoted as the sole
@@ -83,7 +83,12 @@ pub fn simple<'a>(t: Tracker, ids: &'a [u64], kinds: &'a [u8]) -> Answer
     if a.number != numbers::ACCEPTED {
         return refused(conf, a.number, a.id);
     }
-    if two_changed(a.conf, conf) {
+    if idset::two_apart(
+        &a.conf.incoming.ids,
+        a.conf.incoming.len,
+        &conf.incoming.ids,
+        conf.incoming.len,
+    ) {
         return refused(conf, numbers::TWO_VOTERS_CHANGED, 0);
     }
     check_again(tracked, conf, a)
@@ -103,13 +108,10 @@ fn refused(conf: Configuration, number: u64, id: u64) -> Answer
     }
 }
 
-// 1, 2, 3.
-fn readable<'a>(t: Tracker, ids: &'a [u64], kinds: &'a [u8]) -> Verdict
-    ensures { λ r. ⌜ r ≡ readableIn t (now (ids .entry)) (now (kinds .entry)) ⌝ }
+// 2, 3.
+fn readable<'a>(ids: &'a [u64], kinds: &'a [u8]) -> Verdict
+    ensures { λ r. ⌜ r ≡ readableIn (now (ids .entry)) (now (kinds .entry)) ⌝ }
 {
-    if t.is_malformed() {
-        return verdict(numbers::MALFORMED);
-    }
     if ids.len() != kinds.len() {
         return verdict(numbers::LIST_TOO_LONG);
     }
@@ -146,15 +148,19 @@ fn above_2(kinds: &[u8]) -> bool
 fn may_enter<'a>(t: Tracker, ids: &'a [u64], kinds: &'a [u8]) -> Verdict
     ensures { λ r. ⌜ r ≡ mayEnter t (now (ids .entry)) (now (kinds .entry)) ⌝ }
 {
-    let v = readable(t, ids, kinds);
+    let conf = t.conf;
+    let tracked = t.ids;
+    if t.is_malformed() {
+        return verdict(numbers::MALFORMED);
+    }
+    let v = readable(ids, kinds);
     if v.number != numbers::ACCEPTED {
         return v;
     }
-    let conf = t.conf;
     if joint(conf) {
         return verdict(numbers::ALREADY_JOINT);
     }
-    let v = check_invariants(conf, t.ids);
+    let v = check_invariants(conf, tracked);
     if v.number != numbers::ACCEPTED {
         return v;
     }
@@ -183,15 +189,19 @@ fn may_leave(t: Tracker) -> Verdict
 fn may_simple<'a>(t: Tracker, ids: &'a [u64], kinds: &'a [u8]) -> Verdict
     ensures { λ r. ⌜ r ≡ maySimple t (now (ids .entry)) (now (kinds .entry)) ⌝ }
 {
-    let v = readable(t, ids, kinds);
+    let conf = t.conf;
+    let tracked = t.ids;
+    if t.is_malformed() {
+        return verdict(numbers::MALFORMED);
+    }
+    let v = readable(ids, kinds);
     if v.number != numbers::ACCEPTED {
         return v;
     }
-    let conf = t.conf;
     if joint(conf) {
         return verdict(numbers::SIMPLE_WHILE_JOINT);
     }
-    check_invariants(conf, t.ids)
+    check_invariants(conf, tracked)
 }
 
 // Outgoing a copy of incoming.
@@ -202,21 +212,6 @@ fn entering(conf: Configuration) -> Configuration
     let incoming = conf.incoming;
     c.outgoing = incoming;
     c
-}
-
-fn with_auto(a: Answer, auto_leave: bool) -> Answer
-    ensures { λ r. ⌜ r ≡ withAutoIn «auto_leave» a ⌝ }
-{
-    let mut conf = a.conf;
-    let log = a.log;
-    conf.auto_leave = auto_leave;
-    Answer {
-        number: a.number,
-        id: a.id,
-        conf,
-        log,
-        idle: a.idle,
-    }
 }
 
 // The changes, stopping at the first 16; 17.
@@ -262,15 +257,6 @@ fn least(n: usize) -> usize
     ensures { λ r. ⌜ r ≡ min n 64 ⌝ }
 {
     if n < 64 { n } else { 64 }
-}
-
-// Whether incoming differs by two ids or more.
-fn two_changed(a: Configuration, b: Configuration) -> bool
-    ensures { λ r. ⌜ r ≡ twoApart false (held (a .incoming)) (held (b .incoming)) ⌝ }
-{
-    let x = a.incoming;
-    let y = b.incoming;
-    idset::two_apart(&x.ids, x.len, &y.ids, y.len)
 }
 
 // The check again, of what is answered: with the ids that are tracked once the log is applied. A fault refuses, with the configuration given.

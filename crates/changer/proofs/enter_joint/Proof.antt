@@ -25,9 +25,6 @@ refused-requires-2 c κs = search needs
 returns-2 : tie.Need-returns-2
 returns-2 c = search (needs, enter-list)
 
-with-auto-requires : tie.Need-with-auto-requires
-with-auto-requires c κs = search needs
-
 check-again-requires : tie.Need-check-again-requires
 check-again-requires c κs = search needs
 
@@ -45,6 +42,5 @@ enter-joint-spec =
     carry-out-requires
     refused-requires-2
     returns-2
-    with-auto-requires
     check-again-requires
     returns-3)

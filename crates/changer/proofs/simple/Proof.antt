@@ -22,8 +22,8 @@ refused-requires-2 c κs = search needs
 returns-2 : tie.Need-returns-2
 returns-2 c = search (needs, simple-list)
 
-two-changed-requires : tie.Need-two-changed-requires
-two-changed-requires c κs = search needs
+two-apart-requires : tie.Need-two-apart-requires
+two-apart-requires c κs = search needs
 
 refused-requires-3 : tie.Need-refused-requires-3
 refused-requires-3 c κs = search needs
@@ -47,7 +47,7 @@ simple-spec =
     carry-out-requires
     refused-requires-2
     returns-2
-    two-changed-requires
+    two-apart-requires
     refused-requires-3
     returns-3
     check-again-requires
