@@ -29,7 +29,7 @@ unsafe extern "C" fn dimecandle_replay(script: *const u8, n: usize, out: *mut u8
 static MEASURED: AtomicBool = AtomicBool::new(false);
 static PEAK: AtomicUsize = AtomicUsize::new(0);
 
-/// Does something with the stack measured of each entry that it asks: the most that one needed, 0 if none was asked here.
+/// Does something with the stack measured of each entry that it asks: the most that one needed.
 pub fn peak(work: impl FnOnce()) -> usize {
     PEAK.store(0, Relaxed);
     MEASURED.store(true, Relaxed);

@@ -1,43 +1,50 @@
 //! The peak stack of each entry: it is run on a thread whose stack was filled with a pattern, and what it wrote over is looked for.
-//! Of an emulated library the program around it does the same (emulated.c).
+//! Of an emulated library the program around it does the same (emulated.c). Each entry has to keep within its bound.
 
 use crate::calls::CALLS;
 #[cfg(emulated)]
-use crate::emulated;
+use crate::emulated::peak;
 use crate::generate;
 use crate::groups::scripts::{longest_listing, script};
 use crate::random::Random;
-use crate::subject::{say_missing, Linked, Subject};
+use crate::run::CANNOT_RUN;
+use crate::subject::{say_missing, Linked, Subject, CALLS_LINKED, LISTING_LINKED};
 use crate::words::{Block, Request, CAPACITY, REPLY_BYTES};
 use std::process::ExitCode;
-use std::thread;
 
-const STACK: usize = 8 << 20;
+/// What an entry may take.
+const BOUND: usize = 128 << 10;
 
-/// How much below the measuring function is filled.
-const FILLED: usize = 4 << 20;
-
-/// Not filled: the frames of the measuring function and of the one that fills are here. Less than this cannot be told apart.
+/// What is not filled, so that less than this cannot be told apart: the frames of the measuring function and of the one that fills are here.
 const MARGIN: usize = 2 << 10;
 
-const PATTERN: u64 = 0x5eed_5eed_5eed_5eed;
-
 pub fn run() -> ExitCode {
-    say_missing("its entry is the model of the paper");
-    for call in &CALLS {
-        report(&format!("dimecandle_call, {}", call.name), peak_of_call(call.number));
+    if !CALLS_LINKED || !LISTING_LINKED {
+        say_missing("its stack cannot be measured");
+        return ExitCode::from(CANNOT_RUN);
     }
-    let bytes = script(&longest_listing());
-    let mut out = vec![0; 16 << 20];
-    let replay = || {
-        Linked.replay(&bytes, &mut out);
-    };
-    report("dimecandle_replay, the longest listing", peak(replay));
-    ExitCode::SUCCESS
+    let calls = CALLS.iter().map(|call| (format!("dimecandle_call, {}", call.name), peak_of_call(call.number)));
+    let replay = ("dimecandle_replay, the longest listing".to_string(), peak_of_replay());
+    let peaks: Vec<(String, usize)> = calls.chain([replay]).collect();
+    let passed = peaks.iter().filter(|(name, peak)| report(name, *peak)).count();
+    let failed = peaks.len() - passed;
+    println!("{passed} passed, {failed} failed");
+    ExitCode::from(u8::from(failed > 0))
 }
 
-fn report(name: &str, peak: usize) {
-    println!("{name:44}{peak:>9} bytes");
+/// Whether it is within the bound; and above the margin, since else nothing was measured.
+fn report(name: &str, peak: usize) -> bool {
+    let within = MARGIN < peak && peak <= BOUND;
+    println!("{}  {name:44}{peak:>9} bytes of {BOUND}", if within { "passed" } else { "FAILED" });
+    within
+}
+
+fn peak_of_replay() -> usize {
+    let bytes = script(&longest_listing());
+    let mut out = vec![0; 16 << 20];
+    peak(|| {
+        Linked.replay(&bytes, &mut out);
+    })
 }
 
 /// The most that a call needs over random full states, accepted and refused.
@@ -59,50 +66,53 @@ fn peak_of_call(number: u64) -> usize {
 }
 
 #[cfg(not(emulated))]
-use self::peak_here as peak;
+use here::peak;
 
-/// As far as an emulated library wrote below its caller's frame; where `work` asked none, as far as `work` did here.
-#[cfg(emulated)]
-fn peak(work: impl FnOnce() + Send) -> usize {
-    let mut here = 0;
-    match emulated::peak(|| here = peak_here(work)) {
-        0 => here,
-        emulated => emulated,
+#[cfg(not(emulated))]
+mod here {
+    use super::MARGIN;
+    use std::thread;
+
+    const STACK: usize = 8 << 20;
+
+    /// How much below the measuring function is filled.
+    const FILLED: usize = 4 << 20;
+
+    const PATTERN: u64 = 0x5eed_5eed_5eed_5eed;
+
+    /// How far below the caller's frame `work` writes.
+    pub fn peak(work: impl FnOnce() + Send) -> usize {
+        thread::scope(|scope| {
+            let worker = thread::Builder::new().stack_size(STACK).spawn_scoped(scope, || measured(work)).expect("a thread");
+            worker.join().expect("the entry returns")
+        })
     }
-}
 
-/// How far below the caller's frame `work` writes.
-fn peak_here(work: impl FnOnce() + Send) -> usize {
-    thread::scope(|scope| {
-        let worker = thread::Builder::new().stack_size(STACK).spawn_scoped(scope, || measured(work)).expect("a thread");
-        worker.join().expect("the entry returns")
-    })
-}
-
-#[inline(never)]
-fn measured(work: impl FnOnce()) -> usize {
-    let here = 0u64;
-    let top = &raw const here as usize;
-    fill(top);
-    work();
-    top - lowest_written(top)
-}
-
-/// Writes below the stack pointer, within this thread's own stack. No function is called on the way, whose frame would be written over.
-#[inline(never)]
-fn fill(top: usize) {
-    let mut address = (top & !7) - FILLED;
-    while address < top - MARGIN {
-        unsafe { (address as *mut u64).write_volatile(PATTERN) };
-        address += 8;
+    #[inline(never)]
+    fn measured(work: impl FnOnce()) -> usize {
+        let here = 0u64;
+        let top = &raw const here as usize;
+        fill(top);
+        work();
+        top - lowest_written(top)
     }
-}
 
-#[inline(never)]
-fn lowest_written(top: usize) -> usize {
-    let mut address = (top & !7) - FILLED;
-    while address < top - MARGIN && unsafe { (address as *const u64).read_volatile() } == PATTERN {
-        address += 8;
+    /// Writes below the stack pointer, within this thread's own stack. No function is called on the way, whose frame would be written over.
+    #[inline(never)]
+    fn fill(top: usize) {
+        let mut address = (top & !7) - FILLED;
+        while address < top - MARGIN {
+            unsafe { (address as *mut u64).write_volatile(PATTERN) };
+            address += 8;
+        }
     }
-    address
+
+    #[inline(never)]
+    fn lowest_written(top: usize) -> usize {
+        let mut address = (top & !7) - FILLED;
+        while address < top - MARGIN && unsafe { (address as *const u64).read_volatile() } == PATTERN {
+            address += 8;
+        }
+        address
+    }
 }
