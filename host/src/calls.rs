@@ -89,7 +89,7 @@ fn paper_in_order(model: &Model, request: &Request, reply: &mut Reply) {
     reply.yes = u64::from(formed(request).is_ok_and(|state| model.in_order(&state)));
 }
 
-/// Added by the paper: of the Rust only the check is asked.
+/// Added by the paper: worked out from the Rust's check, its sets and its tracked ids.
 fn rust_in_order(rust: &mut Rust, request: &Request, reply: &mut Reply) {
     let tracker = rust.tracker(&request.state);
     let conf = tracker.conf();
@@ -98,7 +98,9 @@ fn rust_in_order(rust: &mut Rust, request: &Request, reply: &mut Reply) {
     let each_tracked = sets.iter().all(|set| set.iter().all(|id| tracker.get(*id).is_some()));
     let each_member = tracker.iter().all(|(id, _)| member(id));
     let none_zero = !member(&0) && tracker.get(0).is_none();
-    reply.yes = u64::from(Changer::new(tracker).check().is_ok() && each_tracked && each_member && none_zero);
+    let roles_apart = conf.learners_next().is_disjoint(&conf.voters().incoming);
+    let passes = Changer::new(tracker).check().is_ok();
+    reply.yes = u64::from(passes && each_tracked && each_member && none_zero && roles_apart);
 }
 
 // ** simple, enter_joint, leave_joint

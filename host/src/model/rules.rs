@@ -228,6 +228,8 @@ impl Model {
                 Some(Refusal { number: 11, id })
             } else if conf.outgoing.contains(&id) == self.has(Wrong::TwelveAsTheTextSays) {
                 Some(Refusal { number: 12, id })
+            } else if self.has(Wrong::TwoRolesFailTheCheck) && conf.incoming.contains(&id) {
+                Some(Refusal { number: 10, id })
             } else {
                 None
             }
@@ -258,11 +260,19 @@ impl Model {
     }
 
     /// "In order (an added yes or no): well formed, passes the check below, no id 0 anywhere, and tracked ids exactly those in at least
-    /// one of the four sets."
+    /// one of the four sets." Document 02, h): it "shall also ask that no staged id is an incoming voter".
     pub fn in_order(&self, state: &State) -> bool {
         let members = state.conf.members();
         let tracked: Set = state.tracked.keys().copied().collect();
-        self.check_state(state).is_ok() && !members.contains(&0) && !tracked.contains(&0) && tracked == members
+        let none_zero = !members.contains(&0) && !tracked.contains(&0);
+        self.check_state(state).is_ok() && none_zero && tracked == members && self.roles_apart(&state.conf)
+    }
+
+    /// "no staged id is an incoming voter"
+    fn roles_apart(&self, conf: &Conf) -> bool {
+        let voters = if self.has(Wrong::StagedOutOfOrder) { &conf.outgoing } else { &conf.incoming };
+        let asked = if self.has(Wrong::LeastStagedAlone) { 1 } else { conf.staged.len() };
+        self.has(Wrong::TwoRolesInOrder) || !conf.staged.iter().take(asked).any(|id| voters.contains(id))
     }
 
     // ** The changes

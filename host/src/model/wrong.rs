@@ -1,5 +1,5 @@
 //! Rules that are wrong on purpose. Document 01, "Errors a porter would make", and others of the kind, also for the count of document 02's
-//! b). Each is one test in model/rules.rs or model/entries.rs.
+//! b) and the part that its h) adds to in order. Each is one test in model/rules.rs or model/entries.rs.
 
 /// One wrong rule; `sentence` says which.
 #[derive(Clone, Copy, Debug, PartialEq, Eq)]
@@ -33,12 +33,16 @@ pub enum Wrong {
     StagedAgainIsAChange,
     ZeroIsNotCounted,
     RefusedListIsCounted,
+    TwoRolesInOrder,
+    LeastStagedAlone,
+    StagedOutOfOrder,
+    TwoRolesFailTheCheck,
 }
 
 use Wrong::*;
 
 impl Wrong {
-    pub const ALL: [Wrong; 29] = [
+    pub const ALL: [Wrong; 33] = [
         CountsChanges,
         TwelveAsTheTextSays,
         CancelsInTheLog,
@@ -68,6 +72,10 @@ impl Wrong {
         StagedAgainIsAChange,
         ZeroIsNotCounted,
         RefusedListIsCounted,
+        TwoRolesInOrder,
+        LeastStagedAlone,
+        StagedOutOfOrder,
+        TwoRolesFailTheCheck,
     ];
 
     pub fn sentence(self) -> &'static str {
@@ -101,11 +109,15 @@ impl Wrong {
             StagedAgainIsAChange => "AddLearnerNode of a staged id is no idle entry, since it is taken out and put back",
             ZeroIsNotCounted => "an entry with id 0 does not count as idle",
             RefusedListIsCounted => "a list refused with 17 or 18 counts its entries with id 0",
+            TwoRolesInOrder => "in order lets in a box that is both an incoming voter and staged",
+            LeastStagedAlone => "in order asks of the least staged id alone whether it is an incoming voter",
+            StagedOutOfOrder => "in order asks that no staged id is an outgoing voter, and so lets in none",
+            TwoRolesFailTheCheck => "the check asks it: a staged id that is an incoming voter is refused with 10",
         }
     }
 
     /// Whether the Rust itself gives another answer. The others are about what the paper adds: an order, limits, unused places, the
-    /// script.
+    /// script, in order.
     pub fn seen_by_the_rust(self) -> bool {
         let added = [
             VotersSetBySet,
@@ -114,6 +126,9 @@ impl Wrong {
             VacatedPlaceKeepsRecord,
             PendingAtEndSilent,
             ExactFitRefused,
+            TwoRolesInOrder,
+            LeastStagedAlone,
+            StagedOutOfOrder,
         ];
         !added.contains(&self)
     }
