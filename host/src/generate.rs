@@ -105,18 +105,31 @@ fn window(random: &mut Random) -> u64 {
 
 // ** States
 
-/// A state in order over these ids: joint half the time; an id that is incoming, outgoing and staged (example 14) now and then.
+/// A state in order over these ids, if none of them is 0: joint half the time.
 pub fn in_order(random: &mut Random, ids: &[u64]) -> State {
-    let mut parts = Parts::default();
     let joint = random.one_in(2);
+    placed(random, ids, joint, &[])
+}
+
+/// A state over these ids that would be in order but for one id or a few that are incoming, outgoing and staged (example 14); over no ids,
+/// the empty one.
+pub fn two_roles(random: &mut Random, ids: &[u64]) -> State {
+    let count = if ids.is_empty() { 0 } else { random.between(1, 3) };
+    let both: Vec<u64> = (0..count).map(|_| random.pick(ids)).collect();
+    placed(random, ids, true, &both)
+}
+
+/// Each id tracked, and in the sets of one of the paper's standings; those of `both` are incoming, outgoing and staged.
+fn placed(random: &mut Random, ids: &[u64], joint: bool, both: &[u64]) -> State {
+    let mut parts = Parts::default();
     let voters = random.between(1, 4);
     for &id in ids {
         let sets: &[usize] = match (joint, random.below(voters + 1)) {
+            _ if both.contains(&id) => &[INCOMING, OUTGOING, STAGED],
             (false, 0) => &[LEARNERS],
             (false, _) => &[INCOMING],
             (true, 0) => random.pick(&[&[LEARNERS][..], &[OUTGOING, STAGED], &[OUTGOING]]),
             (true, 1) => random.pick(&[&[INCOMING][..], &[OUTGOING]]),
-            (true, _) if random.one_in(200) => &[INCOMING, OUTGOING, STAGED],
             (true, _) => &[INCOMING, OUTGOING],
         };
         parts.put(id, sets, true);
@@ -242,9 +255,11 @@ pub fn conf_state(random: &mut Random, ids: &[u64]) -> ConfState {
     lists
 }
 
-/// Lists that a configuration in order is written out as, each shuffled: mostly accepted by `restore`.
+/// Lists that a configuration is written out as, each shuffled, of a state in order or of one with ids of two roles: mostly accepted by
+/// `restore`.
 fn written(random: &mut Random, ids: &[u64]) -> ConfState {
-    let conf = in_order(random, ids).conf;
+    let make = if random.one_in(8) { two_roles } else { in_order };
+    let conf = make(random, ids).conf;
     let mut lists = ConfState::zero();
     let [incoming, outgoing, learners, staged] = conf.sets().map(|set| *set);
     for (to, mut from) in lists.lists_mut().into_iter().zip([incoming, learners, outgoing, staged]) {

@@ -49,7 +49,7 @@ pub struct Group {
 }
 
 #[rustfmt::skip]
-pub const GROUPS: [Group; 28] = [
+pub const GROUPS: [Group; 29] = [
     Group { name: "calls: the examples of document 01", entry: Entry::Call, run: examples::examples },
     Group { name: "calls: every state over two ids, every list of up to two changes", entry: Entry::Call, run: states::two_ids },
     Group { name: "calls: every state over three ids, every single change", entry: Entry::Call, run: states::three_ids },
@@ -60,6 +60,7 @@ pub const GROUPS: [Group; 28] = [
     Group { name: "restore: to fresh, every four lists of up to two ids", entry: Entry::Call, run: restores::to_fresh },
     Group { name: "restore: to every state over two ids, every four lists of up to one id", entry: Entry::Call, run: restores::to_any },
     Group { name: "calls: random states in order", entry: Entry::Call, run: random::in_order },
+    Group { name: "calls: random states with ids of two roles", entry: Entry::Call, run: random::two_roles },
     Group { name: "calls: random states with faults, idle boxes, id 0", entry: Entry::Call, run: random::faulty },
     Group { name: "calls: random malformed states, configurations, logs, lists", entry: Entry::Call, run: random::malformed },
     Group { name: "calls: random sequences from fresh, each answer applied", entry: Entry::Call, run: random::sequences },

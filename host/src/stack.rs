@@ -47,7 +47,8 @@ fn peak_of_replay() -> usize {
     })
 }
 
-/// The most that a call needs over random full states, accepted and refused.
+/// The most that a call needs over random full states, accepted and refused: in order, and with ids of two roles, which pass the check and
+/// cannot be left.
 fn peak_of_call(number: u64) -> usize {
     let mut random = Random::new(1, "stack");
     let ids = generate::ids(&mut random, CAPACITY);
@@ -55,7 +56,8 @@ fn peak_of_call(number: u64) -> usize {
     let mut most = 0;
     for _ in 0..20 {
         let mut request = Request::new(number);
-        request.state = generate::in_order(&mut random, &ids);
+        let make = random.pick(&[generate::in_order, generate::in_order, generate::two_roles]);
+        request.state = make(&mut random, &ids);
         generate::arguments(&mut random, &CALLS[number as usize], &ids, &mut request);
         let call = || {
             Linked.call(request.bytes(), &mut reply);

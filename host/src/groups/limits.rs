@@ -108,7 +108,7 @@ pub fn ends(comparison: &mut Comparison, random: &mut Random, size: Size) -> Com
     for _ in 0..size.pick(2_000, 40_000, 400_000) {
         let ids = random.pick(&pools);
         *request = Request::zero();
-        let make = random.pick(&[generate::in_order, generate::formed]);
+        let make = random.pick(&[generate::in_order, generate::two_roles, generate::formed]);
         request.state = make(random, ids);
         request.state.max_inflight %= 300;
         let call = &CALLS[random.below(CALLS.len())];

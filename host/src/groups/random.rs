@@ -28,6 +28,16 @@ pub fn in_order(comparison: &mut Comparison, random: &mut Random, size: Size) ->
     Ok(())
 }
 
+/// States that are in order but for ids of two roles: the check passes, in order says no, and leaving is refused.
+pub fn two_roles(comparison: &mut Comparison, random: &mut Random, size: Size) -> Compared {
+    let mut request = Request::new(0);
+    for _ in 0..size.pick(1_000, 20_000, 500_000) {
+        some_request(random, generate::two_roles, &mut request);
+        comparison.call(&request)?;
+    }
+    Ok(())
+}
+
 pub fn faulty(comparison: &mut Comparison, random: &mut Random, size: Size) -> Compared {
     let mut request = Request::new(0);
     for _ in 0..size.pick(3_000, 80_000, 2_000_000) {
@@ -41,7 +51,7 @@ pub fn faulty(comparison: &mut Comparison, random: &mut Random, size: Size) -> C
 pub fn malformed(comparison: &mut Comparison, random: &mut Random, size: Size) -> Compared {
     let mut request = Request::new(0);
     for _ in 0..size.pick(3_000, 80_000, 2_000_000) {
-        let make = random.pick(&[generate::in_order as MakeState, generate::formed]);
+        let make = random.pick(&[generate::in_order as MakeState, generate::two_roles, generate::formed]);
         some_request(random, make, &mut request);
         for _ in 0..random.between(1, 3) {
             generate::damage(random, &mut request);

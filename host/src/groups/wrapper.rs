@@ -22,7 +22,7 @@ pub fn wrapper(comparison: &mut Comparison, random: &mut Random, size: Size) -> 
         let count = generate::size(random);
         let ids = generate::ids(random, count);
         let mut request = Request::new(0);
-        let make = random.pick(&[generate::in_order, generate::formed]);
+        let make = random.pick(&[generate::in_order, generate::two_roles, generate::formed]);
         request.state = make(random, &ids);
         let call = numbered(random.pick(&WRAPPED)).expect("a call of the table");
         generate::arguments(random, call, &ids, &mut request);
