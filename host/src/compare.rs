@@ -38,6 +38,8 @@ pub enum Input {
     Call(Box<Request>),
     /// A call through dimecandle.rs.
     Wrapped(Box<Request>),
+    /// A request's state, of which groups/order.rs asks several calls.
+    State(Box<Request>),
     Script(Vec<u8>),
     /// A test of its own, which has no smaller form; it says itself what it did.
     Other(String),

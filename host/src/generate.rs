@@ -105,6 +105,9 @@ fn window(random: &mut Random) -> u64 {
 
 // ** States
 
+/// Makes a state over these ids.
+pub type MakeState = fn(&mut Random, &[u64]) -> State;
+
 /// A state in order over these ids, if none of them is 0: joint half the time.
 pub fn in_order(random: &mut Random, ids: &[u64]) -> State {
     let joint = random.one_in(2);

@@ -5,6 +5,7 @@ mod bytes;
 mod examples;
 mod idle;
 mod limits;
+pub mod order;
 mod random;
 mod restores;
 pub mod scripts;
@@ -49,7 +50,7 @@ pub struct Group {
 }
 
 #[rustfmt::skip]
-pub const GROUPS: [Group; 29] = [
+pub const GROUPS: [Group; 31] = [
     Group { name: "calls: the examples of document 01", entry: Entry::Call, run: examples::examples },
     Group { name: "calls: every state over two ids, every list of up to two changes", entry: Entry::Call, run: states::two_ids },
     Group { name: "calls: every state over three ids, every single change", entry: Entry::Call, run: states::three_ids },
@@ -69,6 +70,8 @@ pub const GROUPS: [Group; 29] = [
     Group { name: "calls: ids 0 and 2^64 - 1", entry: Entry::Call, run: limits::ends },
     Group { name: "idle entries: examples worked by hand", entry: Entry::Call, run: idle::examples },
     Group { name: "idle entries: the Rust's prefixes plainly and with repairs", entry: Entry::Call, run: idle::both_ways },
+    Group { name: "in order: every state over two and three ids, left, written out and restored", entry: Entry::Call, run: order::small },
+    Group { name: "in order: random states, left, written out and restored", entry: Entry::Call, run: order::random },
     Group { name: "bytes: lengths, unknown calls, words that no field can hold", entry: Entry::Call, run: bytes::bytes },
     Group { name: "wrapper: dimecandle.rs on random states", entry: Entry::Wrapper, run: wrapper::wrapper },
     Group { name: "scripts: the listing of document 01", entry: Entry::Replay, run: scripts::example },

@@ -11,6 +11,7 @@ pub fn input(input: &Input) -> String {
     match input {
         Input::Call(words) => request(words),
         Input::Wrapped(words) => format!("through dimecandle.rs: {}", request(words)),
+        Input::State(words) => format!("asked of in order, left, written out and restored: {}", state(&words.state)),
         Input::Script(bytes) => script(bytes),
         Input::Other(text) => text.clone(),
     }

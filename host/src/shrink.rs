@@ -1,7 +1,7 @@
 //! Makes an input that shows a difference smaller, as long as it shows one: shorter lists, fewer ids, smaller numbers.
 
 use crate::compare::{Against, Comparison, Difference, Input, Room};
-use crate::groups::wrapper;
+use crate::groups::{order, wrapper};
 use crate::script::RECORD;
 use crate::words::{Block, Entry, Ids, List, Log, Record, Request, CAPACITY, LIST_PLACES, LOG_PLACES};
 use std::collections::BTreeMap;
@@ -19,6 +19,11 @@ pub fn smallest(comparison: &mut Comparison, input: Input, against: Against) -> 
             let small = call(*request, &mut |tried| same(wrapper::difference(comparison, tried)).is_some());
             let difference = same(wrapper::difference(comparison, &small));
             (Input::Wrapped(small), difference)
+        }
+        Input::State(request) => {
+            let small = call(*request, &mut |tried| same(order::difference(comparison, tried)).is_some());
+            let difference = same(order::difference(comparison, &small));
+            (Input::State(small), difference)
         }
         Input::Script(bytes) => {
             let small = script(bytes, &mut |tried| same(comparison.script_difference(tried, &Room::ALL)).is_some());

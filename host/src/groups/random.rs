@@ -5,12 +5,10 @@ use crate::calls::{APPLY_CONF, CALLS, ENTER_JOINT, LEAVE_JOINT, RESTORE, SIMPLE,
 use crate::compare::{Compared, Comparison};
 use crate::generate;
 use crate::random::Random;
-use crate::words::{Block, List, Request, State};
-
-type MakeState = fn(&mut Random, &[u64]) -> State;
+use crate::words::{Block, List, Request};
 
 /// A random call on a random state.
-fn some_request(random: &mut Random, make: MakeState, request: &mut Request) {
+fn some_request(random: &mut Random, make: generate::MakeState, request: &mut Request) {
     let count = generate::size(random);
     let ids = generate::ids(random, count);
     *request = Request::zero();
@@ -51,7 +49,7 @@ pub fn faulty(comparison: &mut Comparison, random: &mut Random, size: Size) -> C
 pub fn malformed(comparison: &mut Comparison, random: &mut Random, size: Size) -> Compared {
     let mut request = Request::new(0);
     for _ in 0..size.pick(3_000, 80_000, 2_000_000) {
-        let make = random.pick(&[generate::in_order as MakeState, generate::two_roles, generate::formed]);
+        let make = random.pick(&[generate::in_order as generate::MakeState, generate::two_roles, generate::formed]);
         some_request(random, make, &mut request);
         for _ in 0..random.between(1, 3) {
             generate::damage(random, &mut request);
