@@ -219,8 +219,10 @@ impl Tracker {
         Request::of(CHECK, self).answer().map(|_| ())
     }
 
-    /// Whether the check passes, no id is 0, and the tracked boxes are exactly those in one of the four sets. Every state reached from
-    /// a new one by these calls is.
+    /// Whether the check passes, no id is 0, the tracked boxes are exactly those in at least one of the four sets, and no box of
+    /// `learners_next` is an incoming voter. Every tracker that comes from a new one by `restore`, and by answers applied to the tracker
+    /// that gave them, is. From a joint tracker in order `leave_joint` is accepted; and one in order with an incoming voter, written out and
+    /// restored to a new tracker, gives its configuration back.
     pub fn in_order(&self) -> bool {
         let (reply, _) = Request::of(IN_ORDER, self).run();
         reply.words[REPLY_YES] == 1

@@ -1,8 +1,8 @@
 //! Document 01, "Checked examples": each is run through the subject, the Rust and the model, and its answer is held against the paper's
-//! own words.
+//! own words. Example 14 is also asked whether it is in order, which document 02, h) decides.
 
 use super::Size;
-use crate::calls::{APPLY_CONF, CHECK, ENTER_JOINT, LEAVE_JOINT, RESTORE, SIMPLE};
+use crate::calls::{APPLY_CONF, CHECK, ENTER_JOINT, IN_ORDER, LEAVE_JOINT, RESTORE, SIMPLE};
 use crate::compare::{Against, Compared, Comparison, Difference, Failure, Input};
 use crate::random::Random;
 use crate::show;
@@ -11,6 +11,7 @@ use crate::words::{Block, Change, Conf, Ids, List, Record, Reply, Request, ADD_L
 /// One call of an example; an accepted answer is applied before the next.
 enum Do {
     Check,
+    InOrder,
     Simple(Vec<Change>),
     Enter(Vec<Change>),
     Leave,
@@ -18,7 +19,7 @@ enum Do {
     Restore([&'static [u64]; 4]),
 }
 
-use Do::{Check, Enter, Leave, Restore, Simple};
+use Do::{Check, Enter, InOrder, Leave, Restore, Simple};
 
 pub fn add(id: u64) -> Change {
     (id, ADD_NODE)
@@ -89,7 +90,13 @@ fn all() -> Vec<Example> {
         ("12", fresh(), vec![(Restore([&[1, 2], &[1, 2], &[], &[]]), "17 id 0 (2) learners (1) tracked (1 2)")]),
         ("13", fresh(), vec![(Restore([&[0, 1], &[], &[], &[]]), "17 id 0 () tracked ()")]),
         ("13", fresh(), vec![(Restore([&[1, 0], &[], &[], &[]]), "ok (1) tracked (1)")]),
-        ("14", [vec![1, 2], vec![1, 2], vec![], vec![2]], vec![(Check, "ok"), (Leave, "10 id 2")]),
+        ("14", [vec![1, 2], vec![1, 2], vec![], vec![2]], vec![(Check, "ok"), (InOrder, "no"), (Leave, "10 id 2")]),
+        // document 02, h): the same state where 2 is staged and no incoming voter
+        (
+            "14, its neighbour in order",
+            [vec![1], vec![1, 2], vec![], vec![2]],
+            vec![(Check, "ok"), (InOrder, "yes"), (Leave, "ok (1) learners (2) log ()")],
+        ),
         ("15, this order", nearly_full(), vec![(Simple(vec![remove(64), learner(65)]), "ok log (-64 +65)")]),
         ("15, the other order", nearly_full(), vec![(Simple(vec![learner(65), remove(64)]), "16 id 65")]),
         ("15, a list of 256", voters(&[1]), vec![(Simple(vec![add(1); 256]), "ok (1) log ()")]),
@@ -138,6 +145,7 @@ fn started(start: &Start) -> Box<Request> {
 fn ask(request: &mut Request, step: &Do) {
     match step {
         Check => request.call = CHECK,
+        InOrder => request.call = IN_ORDER,
         Leave => request.call = LEAVE_JOINT,
         Simple(list) => (request.call, request.list) = (SIMPLE, List::of(list)),
         Enter(list) => (request.call, request.list) = (ENTER_JOINT, List::of(list)),
@@ -168,6 +176,7 @@ fn said(request: &Request, reply: &Reply) -> String {
     let verdict = if reply.number == 0 { "ok".to_string() } else { format!("{} id {}", reply.number, reply.id) };
     let conf = written(&reply.state.conf);
     match request.call {
+        IN_ORDER => if reply.yes == 1 { "yes" } else { "no" }.to_string(),
         RESTORE => format!("{verdict} {conf} tracked {}", ids(&reply.state.tracked)),
         SIMPLE | ENTER_JOINT | LEAVE_JOINT if reply.number == 0 => {
             let sign = |kind| if kind == REMOVE { '-' } else { '+' };

@@ -19,9 +19,30 @@ const NEXT_IDX: u64 = 9;
 pub fn small(comparison: &mut Comparison, _: &mut Random, size: Size) -> Compared {
     let pools: [&[u64]; 3] = [&[0, 1], &[1, 2], &[1, 2, 3]];
     for ids in &pools[..size.pick(2, 3, 3)] {
-        each_state(ids, &mut Request::new(0), &mut |request| sentences(comparison, request).map(|_| ()))?;
+        let mut met = [0, 0];
+        each_state(ids, &mut Request::new(0), &mut |request| {
+            match sentences(comparison, request)? {
+                Kind::InOrder => met[0] += 1,
+                Kind::TwoRoles => met[1] += 1,
+                Kind::Other => {}
+            }
+            Ok(())
+        })?;
+        let expected = how_many(ids);
+        if met != expected {
+            let what = format!("in order, and in order but for ids of two roles: {met:?} states, expected {expected:?}");
+            return Err(failure(Input::Other(format!("every state over the ids {ids:?}")), what));
+        }
     }
     Ok(())
+}
+
+/// How many states over these ids are in order, and how many but for ids of two roles, worked by hand from the standings: an id other than
+/// 0 is none, I or L, in a joint state also O, IO or OS, and with two roles IOS. A joint state has either flag.
+fn how_many(ids: &[u64]) -> [u64; 2] {
+    let boxes = ids.iter().filter(|&&id| id != 0).count() as u32;
+    let of = |standings: u64| standings.pow(boxes);
+    [of(3) + 2 * (of(6) - of(3)), 2 * (of(7) - of(6))]
 }
 
 /// What the generator makes has to be what it says, or the sentences would be held against fewer states than it seems.
