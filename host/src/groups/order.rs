@@ -8,7 +8,7 @@ use super::states::each_state;
 use super::Size;
 use crate::calls::{IN_ORDER, LEAVE_JOINT, RESTORE, TO_CONF_STATE};
 use crate::compare::{Against, Compared, Comparison, Difference, Failure, Input};
-use crate::generate;
+use crate::generate::{self, MakeState};
 use crate::model::{self, Model};
 use crate::random::Random;
 use crate::show;
@@ -45,20 +45,23 @@ fn how_many(ids: &[u64]) -> [u64; 2] {
     [of(3) + 2 * (of(6) - of(3)), 2 * (of(7) - of(6))]
 }
 
-/// What the generator makes has to be what it says, or the sentences would be held against fewer states than it seems.
 pub fn random(comparison: &mut Comparison, random: &mut Random, size: Size) -> Compared {
+    made(comparison, random, size.pick(600, 9_000, 190_000), generate::in_order, Kind::InOrder)?;
+    made(comparison, random, size.pick(200, 3_000, 60_000), generate::two_roles, Kind::TwoRoles)
+}
+
+/// So many states of one generator. What it makes has to be what it says, or the sentences would be held against fewer states than it seems.
+fn made(comparison: &mut Comparison, random: &mut Random, states: usize, make: MakeState, kind: Kind) -> Compared {
     let mut request = Request::new(0);
-    for turn in 0..size.pick(800, 12_000, 250_000) {
-        let (make, expected): (generate::MakeState, _) =
-            if turn % 4 == 0 { (generate::two_roles, Kind::TwoRoles) } else { (generate::in_order, Kind::InOrder) };
-        let count = generate::size(random).max(usize::from(expected == Kind::TwoRoles));
+    for _ in 0..states {
+        let count = generate::size(random);
         let ids = generate::ids(random, count);
         request.state = make(random, &ids);
-        let kind = sentences(comparison, &mut request)?;
-        if kind != expected {
-            let what = format!("it is {kind:?}, and was made to be {expected:?}");
-            let input = Input::Other(format!("a random state: {}", show::state(&request.state)));
-            return Err(failure(input, what));
+        let expected = if ids.is_empty() { Kind::InOrder } else { kind };
+        let found = sentences(comparison, &mut request)?;
+        if found != expected {
+            let input = Input::Other(format!("a random state: {}", show::conf(&request.state.conf)));
+            return Err(failure(input, format!("it was made to be {expected:?}, and is {found:?}")));
         }
     }
     Ok(())
@@ -115,7 +118,7 @@ fn left(comparison: &mut Comparison, request: &mut Request, expected: (u64, u64)
     holds(request, given == expected, || format!("leaving gives number and id {given:?}, expected {expected:?}"))
 }
 
-/// Written out and restored to fresh. Without an incoming voter only the empty configuration comes back: any other has no last step.
+/// Written out and restored to fresh. Without an incoming voter only the empty configuration comes back: any other is refused with 17.
 fn restored(comparison: &mut Comparison, request: &mut Request) -> Compared {
     let State { conf, max_inflight, .. } = request.state;
     let mut restore = Request::new(RESTORE);
