@@ -112,7 +112,7 @@ impl Wrong {
             TwoRolesInOrder => "in order lets in a box that is both an incoming voter and staged",
             LeastStagedAlone => "in order asks of the least staged id alone whether it is an incoming voter",
             StagedOutOfOrder => "in order asks that no staged id is an outgoing voter, and so lets in none",
-            TwoRolesFailTheCheck => "the check asks it: a staged id that is an incoming voter is refused with 10",
+            TwoRolesFailTheCheck => "the check refuses a staged id that is an incoming voter, with 10",
         }
     }
 
