@@ -10,7 +10,7 @@ use Rattle.rules.specs.Answers.{Verdict, ok, refuse, _▸_, _⇒_}
 use Rattle.rules.specs.Check.{check, isTracked, joint}
 use Rattle.rules.specs.Calls.{enterJoint, enterOf, entering, leaveJoint, leaveOf, listOf, readable, simple, simpleOf, start}
 use Rattle.rules.specs.Idle.{enterIdles, idles, simpleIdles}
-use Rattle.rules.proofs.Applied.{checked-of}
+use Rattle.rules.proofs.Applied.{single-checked}
 use Rattle.rules.proofs.Check.{refuse-ok, then-left, then-right}
 use Rattle.rules.proofs.Formed.{Whole, whole-of}
 use Rattle.rules.proofs.Steps.{Checked}
@@ -56,8 +56,8 @@ module _ (t : Tracker) where
     whole : Whole s
     whole = whole-of s (tracker-formed t w)
 
-    checked : checks ≡ ok → Checked s
-    checked k = checked-of s (tracker-formed t w) k
+    checked : checks ≡ ok → joint (s .conf) ≡ false → Checked s
+    checked = single-checked s (tracker-formed t w)
 
   -- 4 or 6, and 15
   abbrev single : ℕ → Verdict
@@ -75,7 +75,8 @@ module _ (t : Tracker) where
       (λ w. ap (λ (v : Verdict). reads ▸ single 6 ▸ v) (own-check w))
       (λ w p.
       let q : single 6 ▸ checks ≡ ok = then-right reads (single 6 ▸ checks) p in
-      simple-on s (checked w (then-right (single 6) checks q)) (t .ids) (same-tracked w) (t .conf) (same-conf w) xs ks (read-few xs ks (then-left reads (single 6 ▸ checks) p)) (whole w .sets))
+      let j : joint (s .conf) ≡ false = refuse-ok (joint (s .conf)) 6 0 (then-left (single 6) checks q) in
+      simple-on s (checked w (then-right (single 6) checks q) j) (t .ids) (same-tracked w) (t .conf) (same-conf w) xs ks (read-few xs ks (then-left reads (single 6 ▸ checks) p)) (whole w .sets))
       ∙ ap (ifFormed t _) (tests-first (refuse (not (formed s)) 1 0) reads (single 6 ▸ checks) _)
       ∙ count-same t (idles (ids (s .peers)) (listOf xs ks) (start (s .conf))) (simple s xs ks)
 
@@ -92,7 +93,7 @@ module _ (t : Tracker) where
       let q : single 4 ▸ checks ▸ voters ≡ ok = then-right reads (single 4 ▸ checks ▸ voters) p in
       let k : checks ≡ ok = then-left checks voters (then-right (single 4) (checks ▸ voters) q) in
       let j : joint (s .conf) ≡ false = refuse-ok (joint (s .conf)) 4 0 (then-left (single 4) (checks ▸ voters) q) in
-      enter-on s (checked w k) (t .ids) (same-tracked w) (t .conf) (same-conf w) xs ks (read-few xs ks (then-left reads (single 4 ▸ checks ▸ voters) p)) j auto)
+      enter-on s (checked w k j) (t .ids) (same-tracked w) (t .conf) (same-conf w) xs ks (read-few xs ks (then-left reads (single 4 ▸ checks ▸ voters) p)) j auto)
       ∙ ap (ifFormed t _) (tests-first (refuse (not (formed s)) 1 0) reads (single 4 ▸ checks ▸ voters) _)
       ∙ count-same t (idles (ids (s .peers)) (listOf xs ks) (start (entering (s .conf)))) (enterJoint s auto xs ks)
 

@@ -38,7 +38,7 @@ use Rattle.changes.specs.declared.table.Effect.the-variants.{Stays, Adds
 use Rattle.changes.specs.Pending.{trackedIn}
 use Rattle.changes.specs.Table.{standingNamed, kindNamed, effectNamed, rowOf, moveOf, kindIn}
 use Rattle.changes.specs.Change.{standsIn, placeIn, anyChangedIn, oneMore, idleAfter, pushIn, workIn, fullIn, skippedIn, byEffect, movedIn, changeIn, changesIn}
-use Rattle.changes.proofs.Standings.{table-agrees, row-agrees, kind-agrees}
+use Rattle.changes.proofs.Standings.{kind-agrees, standing-agrees, table-agrees}
 use Rattle.changes.proofs.RulesParts.{place-in, place-told, push-in}
 
 -- the rules' work as a struct, over the tracked list ps, when i entries did nothing
@@ -76,7 +76,6 @@ fits-table rules.L k = fits-row true _ _ _ refl refl refl k
 fits-table rules.O k = fits-row true _ _ _ refl refl refl k
 fits-table rules.IO k = fits-row true _ _ _ refl refl refl k
 fits-table rules.OS k = fits-row true _ _ _ refl refl refl k
-fits-table rules.IOS k = fits-row true _ _ _ refl refl refl k
 
 -- ** One change
 
@@ -167,7 +166,7 @@ module _ {r : Progress} {ps : List Peer} {up : ascending (ids ps) ≡ true} {v :
     c = record { kind = kindNamed k; id = x }
 
     move-agrees : table (standingNow (ids ps) v x) (kindNamed k) ≡ (standingNamed (moveOf at k .next), effectNamed (moveOf at k .effect))
-    move-agrees = row-agrees _ _ _ _ _ k ∙ table-agrees at k
+    move-agrees = ap (λ (st : rules.Standing). table st (kindNamed k)) (standing-agrees _ _ _ _ _) ∙ table-agrees at k
 
     move-fits : fits (effectNamed (moveOf at k .effect)) (memb x tracked) ≡ true
     move-fits =

@@ -35,17 +35,16 @@ table-agrees OS AddNode = refl
 table-agrees OS AddLearnerNode = refl
 table-agrees OS RemoveNode = refl
 
--- an id that is incoming, outgoing and staged moves as one of both voters
-pub row-agrees : (t i o l s : Bool) (k : Kind) → rules.table (rules.standingIn (rules.places t i o l s)) (kindNamed k) ≡ rules.table (standingNamed (rowOf t i o l s)) (kindNamed k)
-unfolding rules.table rules.standingIn
-row-agrees false i o l s k = refl
-row-agrees true true true l true k = refl
-row-agrees true true true l false k = refl
-row-agrees true false true l true k = refl
-row-agrees true false true l false k = refl
-row-agrees true true false l s k = refl
-row-agrees true false false true s k = refl
-row-agrees true false false false s k = refl
+-- and so are the standings that it is asked at
+pub standing-agrees : (t i o l s : Bool) → rules.standingIn (rules.places t i o l s) ≡ standingNamed (rowOf t i o l s)
+unfolding rules.standingIn
+standing-agrees false i o l s = refl
+standing-agrees true true true l s = refl
+standing-agrees true false true l true = refl
+standing-agrees true false true l false = refl
+standing-agrees true true false l s = refl
+standing-agrees true false false true s = refl
+standing-agrees true false false false s = refl
 
 pub kind-agrees : (k : ℕ) → kindNamed (kindIn k) ≡ kindOf k
 kind-agrees k = go (eqb k 0) (eqb k 1)

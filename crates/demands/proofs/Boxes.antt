@@ -30,7 +30,7 @@ module _ (t : Tracker) (h : inOrderOf t ≡ true) where
   unfolding inOrderOf
   order-formed = and-left (trackerWellFormed t) (inOrder (stateOf t)) h
 
-  order-state : inOrder (stateOf t) ≡ true
+  pub order-state : inOrder (stateOf t) ≡ true
   unfolding inOrderOf
   order-state = and-right (trackerWellFormed t) (inOrder (stateOf t)) h
 

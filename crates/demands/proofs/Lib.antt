@@ -4,6 +4,7 @@ pub mod Boxes
 pub mod Counts
 pub mod Others
 pub mod RoundTrip
+pub mod Ordered
 pub mod Late
 pub mod Stopped
 pub mod Refused

@@ -33,7 +33,7 @@ use Rattle.demands.proofs.Restorable.{Short, restored}
 
 -- ** The fresh tracker
 
-fresh-formed : (m : ℕ) → formed (fresh m) ≡ true
+pub fresh-formed : (m : ℕ) → formed (fresh m) ≡ true
 unfolding formed confFormed ascending ids
 fresh-formed m = refl
 

@@ -2,23 +2,26 @@
 -- contracts are equal to; the statements are specs/Demands.antt and specs/Statements.antt. Assumes nothing.
 use Prim.Native.Nat.{ℕ}
 use mathlib.Core.Path.{_≡_, ap, _∙_, sym}
-use mathlib.Core.Bool.{true}
+use mathlib.Core.Bool.{true, false}
 use mathlib.Core.List.{List}
 use lib.Dec.{eqb}
-use Rattle.rules.specs.State.{fresh}
+use Rattle.rules.specs.Check.{joint}
+use Rattle.rules.specs.Ids.{isEmpty}
+use Rattle.rules.specs.State.{fresh, noConf}
 use Rattle.rules.specs.Calls.{enterJoint, leaveJoint, simple}
 use Rattle.rules.specs.Idle.{enterIdles, simpleIdles}
-use Rattle.tracker.specs.Bridge.{stateOf, trackerOf}
+use Rattle.tracker.specs.Bridge.{confOf, stateOf, trackerOf}
 use Rattle.tracker.specs.declared.Tracker.{Tracker}
 use Rattle.tracker.specs.declared.Verdict.{Verdict}
 use Rattle.invariants.specs.Check.{inOrderOf}
 use Rattle.changer.specs.Calls.{enterAnswer, leaveAnswer, simpleAnswer}
 use Rattle.demands.specs.Sequences.{Call, afterCalls}
-use Rattle.demands.specs.Demands.{ComesBack, Counted, Kept}
+use Rattle.demands.specs.Demands.{CanBeLeft, ComesBack, Counted, Kept}
 use Rattle.demands.specs.Statements.{OthersAlterNeither, RefusedUntouched}
 use Rattle.demands.proofs.Boxes.{kept}
 use Rattle.demands.proofs.Bytes.{call, no-call, replay-no-room, replay-too-long}
 use Rattle.demands.proofs.Counts.{all-counted}
+use Rattle.demands.proofs.Ordered.{can-be-left, empty-back, fresh-leads, order-back}
 use Rattle.demands.proofs.Others.{others}
 use Rattle.demands.proofs.Refused.{applied-untouched, apply-untouched, asked-untouched, restore-stays, restore-untouched, written-nothing}
 use Rattle.demands.proofs.Restorable.{restored-runs}
@@ -66,6 +69,22 @@ others-alter-neither = others
 -- logged nothing".
 pub counted : (t : Tracker) → Counted t
 counted = all-counted
+
+-- Document 02, h): "from every joint state in order, leaving is accepted."
+pub joint-can-be-left : (t : Tracker) → inOrderOf t ≡ true → joint (confOf (t .conf)) ≡ true → CanBeLeft t
+joint-can-be-left = can-be-left
+
+-- Document 02, h): "every state in order with an incoming voter, written out and restored to fresh, gives its configuration back. So does the empty
+-- configuration."
+pub order-comes-back : (t : Tracker) → inOrderOf t ≡ true → isEmpty (confOf (t .conf) .incoming) ≡ false → (l n : ℕ) → ComesBack t l n
+order-comes-back = order-back
+
+pub empty-comes-back : (t : Tracker) → inOrderOf t ≡ true → confOf (t .conf) ≡ noConf → (l n : ℕ) → ComesBack t l n
+empty-comes-back = empty-back
+
+-- Document 02, h): "No change list makes such a state from fresh", nor does any sequence of calls.
+pub fresh-leads-to-order : (m : ℕ) (cs : List Call) → inOrderOf (afterCalls (trackerOf (fresh m)) cs) ≡ true
+fresh-leads-to-order = fresh-leads
 
 -- Document 01: "That any two results allowed by it are equal is itself proved".
 pub settled : Settled

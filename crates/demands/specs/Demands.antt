@@ -9,17 +9,18 @@ use Rattle.progress.specs.Record.{freshRecord}
 use Rattle.rules.specs.Ids.{memb}
 use Rattle.rules.specs.State.{fresh, members}
 use Rattle.rules.specs.Table.{placesOf, placesIn}
+use Rattle.rules.specs.Calls.{gone, leaving, removals}
 use Rattle.rules.specs.Boxes.{found, recordOf, replay, events}
 use Rattle.rules.specs.Idle.{enterWorks, simpleWorks}
 use Rattle.idset.specs.Set.{held}
-use Rattle.tracker.specs.Bridge.{confOf, peersOf, stateOf, trackerOf, changeLogOf}
+use Rattle.tracker.specs.Bridge.{changeLogOf, confOf, configurationOf, peersOf, stateOf, trackerOf}
 use Rattle.tracker.specs.ConfStates.{writtenOf}
 use Rattle.tracker.specs.declared.Tracker.{Tracker}
 use Rattle.tracker.specs.declared.Outcome.{Outcome}
 use Rattle.invariants.specs.Check.{inOrderOf}
 use Rattle.changer.specs.Calls.{enterAnswer, leaveAnswer, simpleAnswer}
 use Rattle.changer.specs.declared.Answer.{Answer}
-use Rattle.restore.specs.Restore.{restoreOf}
+use Rattle.restore.specs.Restore.{appliedTo, restoreOf}
 use Rattle.demands.specs.Sequences.{Call, afterCalls, deeds, boxIn}
 
 -- Demand 3. After the calls cs, made from t: the state is in order; "the tracked boxes are exactly the members"; a box's standing tells in which
@@ -56,3 +57,10 @@ pub record Counted (t : Tracker) : Type 0 where
   pub enter : (auto : Bool) (ids kinds : List ℕ) → enterAnswer t auto ids kinds .number ≡ 0
       → (enterAnswer t auto ids kinds .idle ≡ length ids - enterWorks (stateOf t) auto ids kinds) × (enterWorks (stateOf t) auto ids kinds ≤ length ids)
   pub leave : leaveAnswer t .idle ≡ 0
+
+-- Document 02, h), "from every joint state in order, leaving is accepted", of the joint tracker t: staged ids join learners, who was outgoing only
+-- is removed, and the answer is applied with any `next_idx`.
+pub record CanBeLeft (t : Tracker) : Type 0 where
+  pub answer : leaveAnswer t
+      ≡ record { number = 0; id = 0; conf = configurationOf (leaving (confOf (t .conf))); log = changeLogOf (removals (gone (confOf (t .conf)))); idle = 0 }
+  pub applied : (n : ℕ) → appliedTo t (leaveAnswer t) n .number ≡ 0

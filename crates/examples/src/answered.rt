@@ -79,6 +79,15 @@ pub(crate) fn say_check(v: Verdict) {
     say_refused(v.number, v.id);
 }
 
+// A yes or no.
+pub(crate) fn say_yes(yes: bool) {
+    if yes {
+        say::words(b"yes");
+        return;
+    }
+    say::words(b"no");
+}
+
 // What tells a record in use from a fresh one.
 pub(crate) fn say_record(asked: &[u8], r: Progress) {
     say::words(asked);

@@ -52,3 +52,10 @@ pub(crate) fn check(asked: &[u8], t: Tracker) {
     answered::say_check(invariants::check(t));
     say::words(b"\n");
 }
+
+// Whether a state is in order.
+pub(crate) fn in_order(asked: &[u8], t: Tracker) {
+    say::words(asked);
+    answered::say_yes(invariants::in_order(t));
+    say::words(b"\n");
+}

@@ -1,5 +1,5 @@
 // Runs the checked examples of document 01, 1 to 15, on the proved code. Each line has the example's number, what is asked, and what the code
-// answered, in the paper's words. crates/examples/stdout is written from the paper.
+// answered, in the paper's words. crates/examples/stdout is written from the papers.
 use crate::given::ADD;
 use crate::given::LEARNER;
 use crate::given::REMOVE;
@@ -159,13 +159,14 @@ fn example_13() {
     );
 }
 
-// Incoming (1 2), outgoing (1 2), staged (2), tracked 1 and 2: the check, and leave.
+// Incoming (1 2), outgoing (1 2), staged (2), tracked 1 and 2: the check, whether it is in order (document 02, h), and leave.
 fn example_14() {
     let t = given::stuck();
     ask::check(
         b"14 incoming (1 2), outgoing (1 2), staged (2), tracked 1 and 2: ",
         t,
     );
+    ask::in_order(b"14 in order: ", t);
     ask::leave(b"14 leave: ", t);
 }
 

@@ -1,5 +1,5 @@
 -- All ids of the four sets: where the check passed against the tracked ids there is room for them, and a walk along them decides whether
--- they are the tracked ones. Assumes nothing.
+-- they are the tracked ones; a walk decides too whether two sets have no id in common. Assumes nothing.
 use Prim.Native.Nat.{ℕ, _≤_}
 use mathlib.Core.Path.{_≡_, refl, ap, _∙_, sym}
 use mathlib.Core.Bool.{Bool, true, false, _||_, not}
@@ -9,9 +9,9 @@ use borrow.Author.Tests.{not-false}
 use lib.ListN.{length}
 use Rattle.rules.specs.Answers.{Verdict, ok, each, refuse}
 use Rattle.rules.specs.Check.{check}
-use Rattle.rules.specs.Ids.{ascending, insertAll, memb, sameIds}
+use Rattle.rules.specs.Ids.{apart, ascending, insertAll, memb, sameIds}
 use Rattle.rules.specs.State.{members}
-use Rattle.rules.proofs.Sets.{ascending-all, ascending-ext, memb-all, length-part, same-ids, ids-same}
+use Rattle.rules.proofs.Sets.{apart-of, ascending-all, ascending-ext, memb-all, length-part, of-apart, same-ids, ids-same}
 use Rattle.rules.proofs.Check.{Passes, passes-of, each-ok, ok-each, refuse-ok}
 use Rattle.idset.specs.Set.{held, wellFormed, unionOf}
 use Rattle.idset.specs.declared.IdSet.{IdSet}
@@ -22,9 +22,9 @@ use Rattle.tracker.specs.Form.{confWellFormed}
 use Rattle.tracker.specs.declared.Configuration.{Configuration}
 use Rattle.tracker.proofs.Bridge.{Sets, conf-sets}
 use Rattle.invariants.specs.declared.Found.{Found}
-use Rattle.invariants.specs.Walk.{First, nobody, first, firstOut, foundOf, faultAt}
+use Rattle.invariants.specs.Walk.{First, nobody, first, firstIn, firstOut, foundOf, faultAt}
 use Rattle.invariants.specs.Check.{areMembers, membersIn}
-use Rattle.invariants.proofs.Walk.{walk-out, walk-each}
+use Rattle.invariants.proofs.Walk.{walk-in, walk-out, walk-each}
 
 pub members-say : (tracked : List ℕ) (c : Configuration) {u v w : United} {o : Found} → u ≡ unionOf (c .incoming) (c .outgoing) → v ≡ unionOf (c .learners) (c .«learners_next»)
     → w ≡ unionOf (u .set) (v .set) → o ≡ foundOf (firstOut tracked (held (w .set))) → not (o .some) ≡ areMembers tracked c
@@ -57,6 +57,23 @@ module _ (xs ys : List ℕ) (a : ascending xs ≡ true) (b : ascending ys ≡ tr
               let k : each missing xs ≡ ok = ok-each missing xs (λ x m. rw (ap (memb x) (sym (same-ids xs ys q)) ∙ m)) in
               absurd (let n : _≡_ {A = ℕ} 0 1 = cc in omega arith)
           here false q = refl
+
+-- the walk along xs meets none in ys where the two are apart
+pub walk-apart : (xs ys : List ℕ) → ascending xs ≡ true → ascending ys ≡ true → not (foundOf (firstIn xs ys) .some) ≡ apart xs ys
+walk-apart xs ys a b = go (firstIn xs ys) (walk-each walk-in 1 ys b xs a)
+  where
+    shared : ℕ → Verdict
+    shared x = refuse (memb x ys) 1 x
+
+    go : (f : First) → faultAt f 1 ≡ each shared xs → not (foundOf f .some) ≡ apart xs ys
+    go nobody e = sym (apart-of xs ys (λ x m. refuse-ok (memb x ys) 1 x (each-ok shared xs (sym e) x m)))
+    go (first z) e = here (apart xs ys) refl
+      where
+        here : (c : Bool) → apart xs ys ≡ c → false ≡ c
+        here true q =
+            let k : each shared xs ≡ ok = ok-each shared xs (λ x m. rw (of-apart xs ys q x m)) in
+            absurd (let n : _≡_ {A = ℕ} 0 1 = cc in omega arith)
+        here false q = refl
 
 -- ** Unions
 

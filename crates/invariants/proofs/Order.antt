@@ -9,7 +9,7 @@ use lib.ListN.{length}
 use Rattle.rules.specs.Answers as rules
 use Rattle.rules.specs.Answers.{ok, fault, passes}
 use Rattle.rules.specs.Check.{check, checkState, inOrder, isTracked}
-use Rattle.rules.specs.Ids.{memb, sameIds}
+use Rattle.rules.specs.Ids.{apart, memb, sameIds}
 use Rattle.rules.specs.State.{members}
 use Rattle.idset.specs.Set.{held}
 use Rattle.idset.proofs.Bridge.{held-few, held-rises}
@@ -18,12 +18,12 @@ use Rattle.tracker.specs.Bridge.{confOf, stateOf}
 use Rattle.tracker.specs.Form.{trackerWellFormed}
 use Rattle.tracker.specs.declared.Tracker.{Tracker}
 use Rattle.tracker.specs.declared.Verdict.{Verdict}
-use Rattle.tracker.proofs.Bridge.{Formed, tracker-parts, tracker-formed, tracked-ids, conf-formed}
-use Rattle.invariants.specs.Check.{checkWalk, areMembers, checkOf, inOrderOf}
+use Rattle.tracker.proofs.Bridge.{Formed, Sets, conf-formed, conf-sets, tracked-ids, tracker-formed, tracker-parts}
+use Rattle.invariants.specs.Check.{areApart, areMembers, checkOf, checkWalk, inOrderOf}
 use Rattle.invariants.proofs.Faults.{not-passes, does-pass}
 use Rattle.invariants.proofs.Parts.{check-numbered}
 use Rattle.invariants.proofs.Checks.{walk-checks}
-use Rattle.invariants.proofs.Members.{members-tracked, members-walk}
+use Rattle.invariants.proofs.Members.{members-tracked, members-walk, walk-apart}
 
 -- the walks along a state's own sets
 abbrev pub walkOf : Tracker → rules.Verdict
@@ -41,6 +41,7 @@ module _ (t : Tracker) (w : trackerWellFormed t ≡ true) where
   check-well = rw (w, tracker-formed t w, state-walks)
 
   pub order-well : inOrderOf t ≡ passes (walkOf t) && (not (memb 0 (held (t .ids))) && not (memb 0 (members (confOf (t .conf))))) && sameIds (held (t .ids)) (members (confOf (t .conf)))
+      && apart (confOf (t .conf) .staged) (confOf (t .conf) .incoming)
   unfolding inOrderOf inOrder
   order-well = rw (w, tracker-formed t w, state-walks, tracked-ids t w)
 
@@ -85,15 +86,25 @@ module _ (t : Tracker) {v : Verdict} (q : v ≡ checkOf t) where
       pub order-zero : k ≡ true → false ≡ inOrderOf t
       order-zero y = sym (order-well t (passing .well) ∙ rw (passing .pass, ← e, y))
 
-      pub order-members : k ≡ false → {r : Bool} → r ≡ areMembers (held (t .ids)) (t .conf) → r ≡ inOrderOf t
-      order-members n g =
-          let w : trackerWellFormed t ≡ true = passing .well in
-          let f : Formed t = tracker-parts t w in
-          let c : check (λ x. memb x (held (t .ids))) (confOf (t .conf)) ≡ ok = sym (walks t w) ∙ passing .pass in
-          let few : length (held (t .ids)) ≤ 64 = held-few (t .ids) (f .ids) in
-          let z : memb 0 (members (confOf (t .conf))) ≡ false = go (memb 0 (members (confOf (t .conf)))) (λ m. sym n ∙ e ∙ members-tracked (held (t .ids)) (t .conf) (f .conf) (held-rises (t .ids) (f .ids)) few c 0 m) in
-          g ∙ members-walk (held (t .ids)) (t .conf) (f .conf) (held-rises (t .ids) (f .ids)) few c ∙ sym (order-well t w ∙ rw (passing .pass, ← e, n, z))
-        where
-          go : (b : Bool) → (b ≡ true → false ≡ true) → b ≡ false
-          go true h = sym (h refl)
-          go false h = refl
+      module _ (n : k ≡ false) {m : Bool} (g : m ≡ areMembers (held (t .ids)) (t .conf)) where
+        -- no id 0 is a member, and the walk decides whether the members are the tracked ids
+        so-far : inOrderOf t ≡ m && apart (confOf (t .conf) .staged) (confOf (t .conf) .incoming)
+        so-far =
+            let w : trackerWellFormed t ≡ true = passing .well in
+            let f : Formed t = tracker-parts t w in
+            let c : check (λ x. memb x (held (t .ids))) (confOf (t .conf)) ≡ ok = sym (walks t w) ∙ passing .pass in
+            let few : length (held (t .ids)) ≤ 64 = held-few (t .ids) (f .ids) in
+            let z : memb 0 (members (confOf (t .conf))) ≡ false = go (memb 0 (members (confOf (t .conf)))) (λ m. sym n ∙ e ∙ members-tracked (held (t .ids)) (t .conf) (f .conf) (held-rises (t .ids) (f .ids)) few c 0 m) in
+            order-well t w ∙ rw (passing .pass, ← e, n, z, g, members-walk (held (t .ids)) (t .conf) (f .conf) (held-rises (t .ids) (f .ids)) few c)
+          where
+            go : (b : Bool) → (b ≡ true → false ≡ true) → b ≡ false
+            go true h = sym (h refl)
+            go false h = refl
+
+        pub order-strangers : not m ≡ true → false ≡ inOrderOf t
+        order-strangers y = sym (so-far ∙ rw (not-true m y))
+
+        pub order-apart : not m ≡ false → {r : Bool} → r ≡ areApart (confOf (t .conf)) → r ≡ inOrderOf t
+        order-apart y q =
+            let c : Sets (t .conf) = conf-sets (t .conf) (tracker-parts t (passing .well) .conf) in
+            q ∙ walk-apart (confOf (t .conf) .staged) (confOf (t .conf) .incoming) (held-rises _ (c .next)) (held-rises _ (c .incoming)) ∙ sym (so-far ∙ rw (not-false m y))

@@ -46,6 +46,10 @@ membersIn c = unionOf (unionOf (c .incoming) (c .outgoing) .set) (unionOf (c .le
 abbrev pub areMembers : List ℕ → Configuration → Bool
 areMembers tracked c = not (foundOf (firstOut tracked (held (membersIn c))) .some)
 
+-- a walk along the incoming voters meets no staged id
+abbrev pub areApart : Conf → Bool
+areApart c = not (foundOf (firstIn (c .staged) (c .incoming)) .some)
+
 -- the check of any state, through the bridge: 1 where it is malformed
 unfoldable pub checkOf : Tracker → Verdict
 checkOf t = cond (trackerWellFormed t) (verdictOf (checkState (stateOf t))) (verdictOf (fault 1 0))

@@ -5,12 +5,12 @@ use mathlib.Core.Path.{_≡_, refl}
 use mathlib.Core.Bool.{true, false}
 use mathlib.Core.List.{[], _∷_}
 use lib.ListN.{take}
-use Rattle.rules.specs.Ids.{memb, above, ascending, insertId, insertAll, sameIds}
+use Rattle.rules.specs.Ids.{apart, memb, above, ascending, insertId, insertAll, sameIds}
 use Rattle.rules.specs.State.{State, ids, confFormed, formed}
 use Rattle.rules.specs.Answers.{ok, fault, each}
 use Rattle.rules.specs.Check.{joint, check, checkState, inOrder}
 use Rattle.rules.specs.Rows.{olds, conf, of}
-use Rattle.rules.specs.Cases.{s1, m1}
+use Rattle.rules.specs.Cases.{s1, s14, m1}
 use Rattle.idset.specs.Places.{rank, firstIs}
 use Rattle.idset.specs.Set.{setOf, wellFormed}
 use Rattle.tracker.specs.Bridge.{confOf, configurationOf, trackerOf}
@@ -71,7 +71,7 @@ order-of : (s : State) → formed s ≡ true → inOrderOf (trackerOf s) ≡ inO
 unfolding inOrderOf
 order-of s w = rw (tracker-well s w, state-back s w)
 
--- voter 1 not tracked; id 0 tracked, a voter; voter 1 with an idle box 2
+-- voter 1 not tracked; id 0 tracked, a voter; voter 1 with an idle box 2; (1)&&(1 2) with 2 staged
 abbrev untracked : State
 untracked = of [] (s1 .conf)
 
@@ -80,6 +80,9 @@ zero-in = of (olds (0 ∷ [])) (conf (0 ∷ []) [] [] [])
 
 abbrev idle-in : State
 idle-in = of (olds (1 ∷ 2 ∷ [])) (s1 .conf)
+
+abbrev staged-out : State
+staged-out = of (olds (1 ∷ 2 ∷ [])) (conf (1 ∷ []) (1 ∷ 2 ∷ []) [] (2 ∷ []))
 
 pub checked :
     -- `check` that refuses everything
@@ -96,5 +99,12 @@ pub checked :
     × (inOrderOf (trackerOf idle-in) ≡ false)
     -- `in_order` that lets an untracked member in
     × (inOrderOf (trackerOf untracked) ≡ false)
-unfolding checkOf trackerWellFormed confWellFormed wellFormed setOf ids checkState inOrder check each formed confFormed memb above ascending insertId insertAll sameIds
-checked = (check-of s1 refl, refl, check-of untracked refl, order-of s1 refl, order-of zero-in refl, order-of idle-in refl, order-of untracked refl)
+    -- `in_order` that lets a box with two roles in, as example 14's state has one
+    × (inOrderOf (trackerOf s14) ≡ false)
+    -- `in_order` that lets no staged outgoing voter in
+    × (inOrderOf (trackerOf staged-out) ≡ true)
+    -- `check` that refuses two roles, which the Rust's does not
+    × (checkOf (trackerOf s14) ≡ said 0 0)
+unfolding checkOf trackerWellFormed confWellFormed wellFormed setOf ids checkState inOrder apart check each formed confFormed memb above ascending insertId insertAll sameIds
+checked =
+    (check-of s1 refl, refl, check-of untracked refl, order-of s1 refl, order-of zero-in refl, order-of idle-in refl, order-of untracked refl, order-of s14 refl, order-of staged-out refl, check-of s14 refl)

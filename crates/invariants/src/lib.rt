@@ -11,7 +11,7 @@ ghost use Rattle.tracker.specs.Bridge.{confOf};
 ghost use Rattle.tracker.specs.Apply.{verdictOf};
 ghost use Rattle.rules.specs.Check as rules;
 ghost use Rattle.invariants.specs.Walk.{firstOut, firstIn, foundOf, faultIn, soonerOf};
-ghost use Rattle.invariants.specs.Check.{votersWalk, learnersWalk, stagedWalk, singleWalk, checkWalk, areMembers, checkOf, inOrderOf};
+ghost use Rattle.invariants.specs.Check.{votersWalk, learnersWalk, stagedWalk, singleWalk, checkWalk, areMembers, areApart, checkOf, inOrderOf};
 
 // The first id that a walk was looking for, if there is one.
 pub struct Found {
@@ -205,7 +205,8 @@ pub fn check(t: Tracker) -> Verdict
     check_invariants(conf, ids)
 }
 
-// In order: well formed, passes the check, no id 0 anywhere, tracked ids exactly those in at least one of the four sets.
+// In order: well formed, passes the check, no id 0 anywhere, tracked ids exactly those in at least one of the four sets, no staged id an incoming
+// voter.
 pub fn in_order(t: Tracker) -> bool
     ensures { λ r. ⌜ r ≡ inOrderOf t ⌝ }
 {
@@ -218,7 +219,10 @@ pub fn in_order(t: Tracker) -> bool
     if ids.contains(0) {
         return false;
     }
-    are_members(conf, ids)
+    if !are_members(conf, ids) {
+        return false;
+    }
+    are_apart(conf)
 }
 
 // Whether all of the tracked ids are in at least one of the four sets: a walk along their union.
@@ -231,4 +235,14 @@ fn are_members(conf: Configuration, ids: IdSet) -> bool
     let members = all.set;
     let out = first_out(&ids.ids, ids.len, &members.ids, members.len);
     !out.some
+}
+
+// Whether no staged id is an incoming voter: a walk along both sets.
+fn are_apart(conf: Configuration) -> bool
+    ensures { λ r. ⌜ r ≡ areApart (confOf conf) ⌝ }
+{
+    let a = conf.learners_next;
+    let b = conf.incoming;
+    let both = first_in(&a.ids, a.len, &b.ids, b.len);
+    !both.some
 }

@@ -7,24 +7,25 @@ use native.Mathlib.Omega.{arith}
 use borrow.Author.Tests.{ne-eqb, eqb-true, lt-leb, not-true}
 use lib.Dec.{eqb, leb}
 use lib.ListN.{length}
+use Rattle.progress.specs.Record.{freshRecord}
 use Rattle.progress.specs.declared.Progress.{Progress}
 use Rattle.rules.specs.Ids.{ascending, isEmpty, memb, removeId}
 use Rattle.rules.specs.State.{Change, Conf, Kind, Peer, State, add, addLearner, addNode, ids, remove, removeNode}
 use Rattle.rules.specs.Answers.{accepted, ok}
 use Rattle.rules.specs.Check.{check, isTracked, joint}
-use Rattle.rules.specs.Table.{Effect, I, IO, IOS, L, O, OS, Places, Standing, adds, idle, none, place, placesOf, removes, standingIn, stays, table}
+use Rattle.rules.specs.Table.{Effect, I, IO, L, O, OS, Places, Standing, adds, idle, none, place, placesOf, removes, standingIn, stays, table}
 use Rattle.rules.specs.Changes.{Work, andThen, change, changes, done, logged, pending, pendingTracked}
-use Rattle.rules.specs.Calls.{difference, enterOf, entering, simpleOf, start, withAuto}
+use Rattle.rules.specs.Calls.{difference, enterOf, entering, gone, leaveOf, leaving, removals, simpleOf, start, withAuto}
 use Rattle.rules.specs.Apply.{enrol, room}
 use Rattle.rules.specs.Boxes.{Box, changeBox}
 use Rattle.rules.proofs.Sets.{and-left, and-right, ascending-remove, length-part, length-remove, memb-remove}
 use Rattle.rules.proofs.Plain.{changesBox}
 use Rattle.rules.proofs.Boxes.{Sound, boxAt, spot}
-use Rattle.rules.proofs.Changes.{After, Fine, change-done, changes-done, here, ids-enrol, now, stands-here, tracked-now}
+use Rattle.rules.proofs.Changes.{After, Fine, change-done, changes-done, here, ids-enrol, last-says, now, stands-here, tracked-now}
 use Rattle.rules.proofs.Check.{Passes, check-of, passes-of}
-use Rattle.rules.proofs.Steps.{Ordered, auto-sound, enter-sound}
+use Rattle.rules.proofs.Steps.{Ordered, auto-sound, enter-sound, leave-sound}
 
--- ** At one of the eight standings the check finds no fault
+-- ** At one of the seven standings the check finds no fault
 
 abbrev implies : Bool → Bool → Bool
 implies a b = not a || b
@@ -46,7 +47,6 @@ lawful-places L = refl
 lawful-places O = refl
 lawful-places IO = refl
 lawful-places OS = refl
-lawful-places IOS = refl
 
 pub passes-sound : (c : Conf) (ps : List Peer) → Sound c ps → not (joint c) && c .autoLeave ≡ false → Passes (λ y. memb y (ids ps)) c
 passes-sound c ps s q =
@@ -153,6 +153,25 @@ module _ (u : State) (o : Ordered u) (r : Progress) (j : joint (u .conf) ≡ fal
         quiet : not (joint (w .conf)) && auto ≡ false
         quiet = rw (a .outgoing, n)
 
+-- ** Leaving a joint state in order is accepted
+
+module _ (s : State) (o : Ordered s) (j : joint (s .conf) ≡ true) where
+  abbrev r₀ : Progress
+  r₀ = freshRecord 0 0
+
+  abbrev stay : List Peer
+  stay = enrol r₀ (removals (gone (s .conf))) (s .peers)
+
+  tracked-then : pendingTracked (ids (s .peers)) (removals (gone (s .conf))) ≡ (λ y. memb y (ids stay))
+  tracked-then = fun-ext (λ y. last-says y (removals (gone (s .conf))) (ids (s .peers)) (o .sound .ids↑) ∙ ap (memb y) (sym (ids-enrol r₀ (removals (gone (s .conf))) (s .peers))))
+
+  leave-checked : check (pendingTracked (ids (s .peers)) (removals (gone (s .conf)))) (leaving (s .conf)) ≡ ok
+  leave-checked = rw tracked-then (check-of (λ y. memb y (ids stay)) (leaving (s .conf)) (passes-sound (leaving (s .conf)) stay (leave-sound r₀ (s .conf) (s .peers) (o .sound)) refl))
+
+  pub leave-accepted : leaveOf s ≡ accepted (leaving (s .conf)) (removals (gone (s .conf)))
+  unfolding leaveOf
+  leave-accepted = rw (j, o .checked, leave-checked)
+
 -- ** Where every id has its place among 64, no change is refused with 16
 
 length-strict : (x : ℕ) (xs ys : List ℕ) → ascending xs ≡ true → ascending ys ≡ true → ((y : ℕ) → memb y xs ≡ true → memb y ys ≡ true) → memb x ys ≡ true → memb x xs ≡ false → length xs < length ys
@@ -189,9 +208,6 @@ adds-untracked IO removeNode h = absurd (false≢true h)
 adds-untracked OS addNode h = absurd (false≢true h)
 adds-untracked OS addLearner h = absurd (false≢true h)
 adds-untracked OS removeNode h = absurd (false≢true h)
-adds-untracked IOS addNode h = absurd (false≢true h)
-adds-untracked IOS addLearner h = absurd (false≢true h)
-adds-untracked IOS removeNode h = absurd (false≢true h)
 
 module _ (r : Progress) (ps : List Peer) (up : ascending (ids ps) ≡ true) (T : List ℕ) (T↑ : ascending T ≡ true) (T64 : length T ≤ 64) where
   abbrev pub inside : List Change → Type 0

@@ -1,7 +1,7 @@
 -- An accepted answer of any well-formed state, in order or not, fits and is applied: apply_conf never refuses it. Assumes nothing.
 use Prim.Native.Nat.{ℕ, _≤_}
 use mathlib.Core.Path.{_≡_, ap, _∙_, sym, fun-ext}
-use mathlib.Core.Bool.{true}
+use mathlib.Core.Bool.{true, false}
 use mathlib.Core.List.{List}
 use borrow.Author.Tests.{le-leb}
 use lib.ListN.{length}
@@ -10,20 +10,20 @@ use Rattle.progress.specs.Record.{freshRecord}
 use Rattle.rules.specs.Ids.{memb}
 use Rattle.rules.specs.State.{Conf, State, ids, confFormed, formed, Entry, logFormed}
 use Rattle.rules.specs.Answers.{ok, accepted}
-use Rattle.rules.specs.Check.{check, isTracked}
+use Rattle.rules.specs.Check.{check, isTracked, joint}
 use Rattle.rules.specs.Changes.{pendingTracked}
 use Rattle.rules.specs.Apply.{enrol, applied, applyConf}
 use Rattle.rules.specs.Restore.{Step, ask}
 use Rattle.rules.proofs.Formed.{Whole, whole-of, of-whole, sets-of}
 use Rattle.rules.proofs.Changes.{ids-enrol, last-says}
-use Rattle.rules.proofs.Check.{passes-of, stands-of}
-use Rattle.rules.proofs.Means.{asked-passes}
+use Rattle.rules.proofs.Check.{Apart, passes-of, single-apart, stands-of}
+use Rattle.rules.proofs.Means.{asked-apart, asked-passes}
 use Rattle.rules.proofs.Steps.{Checked, Stepped}
 use Rattle.rules.proofs.Order.{stepShort, asked-checked, conf-formed}
 
--- a well-formed state that passes the check
-pub checked-of : (s : State) → formed s ≡ true → check (isTracked s) (s .conf) ≡ ok → Checked s
-checked-of s f k =
+-- a well-formed state that passes the check, and in which no staged id is an incoming voter
+pub checked-of : (s : State) → formed s ≡ true → check (isTracked s) (s .conf) ≡ ok → Apart (s .conf) → Checked s
+checked-of s f k a =
     let w : Whole s = whole-of s f in
     record {
       sound = record {
@@ -32,11 +32,15 @@ checked-of s f k =
         learners↑ = w .sets .learners .rises;
         staged↑ = w .sets .staged .rises;
         ids↑ = w .tracked .rises;
-        stands = stands-of (isTracked s) (s .conf) (passes-of (isTracked s) (s .conf) k);
+        stands = stands-of (isTracked s) (s .conf) (passes-of (isTracked s) (s .conf) k) a;
       };
       few = w .tracked .few;
       checked = k;
     }
+
+-- one that is not joint has no staged id
+pub single-checked : (s : State) → formed s ≡ true → check (isTracked s) (s .conf) ≡ ok → joint (s .conf) ≡ false → Checked s
+single-checked s f k j = checked-of s f k (single-apart (isTracked s) (s .conf) (passes-of (isTracked s) (s .conf) k) j)
 
 pub record Applied (s : State) (n : ℕ) (c : Conf) (log : List Entry) : Type 0 where
   pub fits : confFormed c ≡ true
@@ -58,7 +62,7 @@ any-applied s f n p h c log e =
     r = freshRecord n (s .maxInflight)
 
     k : Checked s
-    k = checked-of s f (asked-passes s p c log e)
+    k = checked-of s f (asked-passes s p c log e) (asked-apart s p c log e)
 
     d : Stepped s (freshRecord n (s .maxInflight)) p c log
     d = asked-checked s k (freshRecord n (s .maxInflight)) p h c log e

@@ -3,13 +3,12 @@ use Prim.Native.Nat.{ℕ}
 use mathlib.Core.Path.{_≡_, refl, ap, _∙_}
 use mathlib.Core.Bool.{Bool, true, false, _&&_, _||_, not, cond}
 use mathlib.Core.List.{List}
-use native.Mathlib.Omega.{arith}
 use borrow.Author.Tests.{eq-eqb, eqb-true}
 use lib.Dec.{eqb}
 use Rattle.progress.specs.declared.Progress.{Progress}
 use Rattle.rules.specs.Ids.{ascending, memb}
 use Rattle.rules.specs.State.{Conf, Kind, Peer, addLearner, addNode, ids, removeNode}
-use Rattle.rules.specs.Table.{Effect, I, IO, IOS, L, O, OS, Places, Standing, adds, idle, none, place, places, placesIn, placesOf, put, removes, standingIn, stays, table}
+use Rattle.rules.specs.Table.{Effect, I, IO, L, O, OS, Places, Standing, adds, idle, none, place, places, placesIn, placesOf, put, removes, standingIn, stays, table}
 use Rattle.rules.specs.Apply.{track, untrack}
 use Rattle.rules.specs.Boxes.{Box, Found, changeBox, kept, recordOf}
 use Rattle.rules.proofs.Sets.{ascending-insert, ascending-remove, memb-insert, memb-remove}
@@ -24,7 +23,6 @@ standing-places L = refl
 standing-places O = refl
 standing-places IO = refl
 standing-places OS = refl
-standing-places IOS = refl
 
 abbrev trackedAfter : Effect → Bool → Bool
 trackedAfter stays t = t
@@ -57,9 +55,6 @@ row-places IO removeNode = refl
 row-places OS addNode = refl
 row-places OS addLearner = refl
 row-places OS removeNode = refl
-row-places IOS addNode = refl
-row-places IOS addLearner = refl
-row-places IOS removeNode = refl
 
 pub memb-put : (b : Bool) (x y : ℕ) (xs : List ℕ) → ascending xs ≡ true → memb y (put b x xs) ≡ cond (eqb x y) b (memb y xs)
 memb-put true x y xs a = memb-insert x y xs ∙ go (eqb x y)
@@ -113,7 +108,7 @@ spot c ps y = placesIn (memb y (ids ps)) c y
 abbrev pub boxAt : Conf → List Peer → ℕ → Box
 boxAt c ps y = record { standing = standingIn (spot c ps y); held = recordOf y ps }
 
--- each list ascending, and each id at one of the eight standings
+-- each list ascending, and each id at one of the seven standings
 pub record Sound (c : Conf) (ps : List Peer) : Type 0 where
   pub incoming↑ : ascending (c .incoming) ≡ true
   pub outgoing↑ : ascending (c .outgoing) ≡ true

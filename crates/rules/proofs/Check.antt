@@ -11,7 +11,7 @@ use Rattle.rules.specs.State.{Conf}
 use Rattle.rules.specs.Answers.{Verdict, _▸_, each, fault, ok, refuse}
 use Rattle.rules.specs.Check.{check, joint}
 use Rattle.rules.specs.Table.{places, placesIn, placesOf, standingIn}
-use Rattle.rules.proofs.Sets.{memb-all, memb-head, or-true}
+use Rattle.rules.proofs.Sets.{empty-none, memb-all, memb-head, or-true}
 
 pub then-left : (u v : Verdict) → u ▸ v ≡ ok → u ≡ ok
 then-left ok v h = refl
@@ -120,26 +120,33 @@ module _ (t : ℕ → Bool) (c : Conf) where
       voter x true e m = p .incoming-tracked x e
       voter x false e m = p .outgoing-tracked x (rw e at m)
 
--- ** The eight standings
+-- ** The seven standings
 
 off : (b : Bool) → (b ≡ true → ⊥) → b ≡ false
 off true h = absurd (h refl)
 off false h = refl
 
-eight : (t i o l s : Bool) → (i ≡ true → t ≡ true) → (o ≡ true → t ≡ true) → (l ≡ true → t ≡ true) → (s ≡ true → t ≡ true)
-    → (l ≡ true → o ≡ false) → (l ≡ true → i ≡ false) → (s ≡ true → o ≡ true) → places t i o l s ≡ placesOf (standingIn (places t i o l s))
+seven : (t i o l s : Bool) → (i ≡ true → t ≡ true) → (o ≡ true → t ≡ true) → (l ≡ true → t ≡ true) → (s ≡ true → t ≡ true)
+    → (l ≡ true → o ≡ false) → (l ≡ true → i ≡ false) → (s ≡ true → o ≡ true) → (s ≡ true → i ≡ false) → places t i o l s ≡ placesOf (standingIn (places t i o l s))
 unfolding standingIn
-eight false i o l s it ot lt st lo li so =
+seven false i o l s it ot lt st lo li so si =
     rw (off i (λ e. false≢true (it e)), off o (λ e. false≢true (ot e)), off l (λ e. false≢true (lt e)), off s (λ e. false≢true (st e)))
-eight true true true l true it ot lt st lo li so = rw (off l (λ e. true≢false (lo e)))
-eight true true true l false it ot lt st lo li so = rw (off l (λ e. true≢false (lo e)))
-eight true false true l true it ot lt st lo li so = rw (off l (λ e. true≢false (lo e)))
-eight true false true l false it ot lt st lo li so = rw (off l (λ e. true≢false (lo e)))
-eight true true false l s it ot lt st lo li so = rw (off s (λ e. false≢true (so e)), off l (λ e. true≢false (li e)))
-eight true false false true s it ot lt st lo li so = rw (off s (λ e. false≢true (so e)))
-eight true false false false s it ot lt st lo li so = rw (off s (λ e. false≢true (so e)))
+seven true true true l s it ot lt st lo li so si = rw (off l (λ e. true≢false (lo e)), off s (λ e. true≢false (si e)))
+seven true false true l true it ot lt st lo li so si = rw (off l (λ e. true≢false (lo e)))
+seven true false true l false it ot lt st lo li so si = rw (off l (λ e. true≢false (lo e)))
+seven true true false l s it ot lt st lo li so si = rw (off s (λ e. false≢true (so e)), off l (λ e. true≢false (li e)))
+seven true false false true s it ot lt st lo li so si = rw (off s (λ e. false≢true (so e)))
+seven true false false false s it ot lt st lo li so si = rw (off s (λ e. false≢true (so e)))
 
-pub stands-of : (t : ℕ → Bool) (c : Conf) → Passes t c → (x : ℕ) → placesIn (t x) c x ≡ placesOf (standingIn (placesIn (t x) c x))
-stands-of t c p x =
-    eight (t x) (memb x (c .incoming)) (memb x (c .outgoing)) (memb x (c .learners)) (memb x (c .staged))
-    (p .incoming-tracked x) (p .outgoing-tracked x) (p .learner-tracked x) (p .staged-tracked x) (p .learner-not-outgoing x) (p .learner-not-incoming x) (p .staged-outgoing x)
+-- no staged id is an incoming voter
+abbrev pub Apart : Conf → Type 0
+Apart c = (x : ℕ) → memb x (c .staged) ≡ true → memb x (c .incoming) ≡ false
+
+-- where nothing is outgoing nothing is staged
+pub single-apart : (t : ℕ → Bool) (c : Conf) → Passes t c → joint c ≡ false → Apart c
+single-apart t c p j x m = absurd (false≢true (sym (empty-none (c .outgoing) (not-false (isEmpty (c .outgoing)) j) x) ∙ p .staged-outgoing x m))
+
+pub stands-of : (t : ℕ → Bool) (c : Conf) → Passes t c → Apart c → (x : ℕ) → placesIn (t x) c x ≡ placesOf (standingIn (placesIn (t x) c x))
+stands-of t c p a x =
+    seven (t x) (memb x (c .incoming)) (memb x (c .outgoing)) (memb x (c .learners)) (memb x (c .staged))
+    (p .incoming-tracked x) (p .outgoing-tracked x) (p .learner-tracked x) (p .staged-tracked x) (p .learner-not-outgoing x) (p .learner-not-incoming x) (p .staged-outgoing x) (a x)

@@ -17,14 +17,14 @@ use Rattle.rules.specs.Calls.{enterJoint, enterOf, leaveJoint, leaveOf, 
 use Rattle.rules.specs.Apply.{applied}
 use Rattle.rules.specs.Restore.{Step, all, applyAnswer, ask, enterStep, goOn, guarded, leaveStep, oneByOne, restorable, restore, restoreSteps, run, short, simpleStep, wanted}
 use Rattle.rules.specs.Sequences.{Call, Deed, afterCalls, deeds, deedsOf, deedsOfRun, enterCall, ifOk, leaveCall, perform, restoreCall, simpleCall}
-use Rattle.rules.specs.Boxes.{Box, Event, boxOf, events, named, naming, replay}
+use Rattle.rules.specs.Boxes.{Event, boxOf, events, named, naming, replay}
 use Rattle.rules.specs.Demands.{Kept}
 use Rattle.rules.proofs.Sets.{and-left, and-right, or-right}
 use Rattle.rules.proofs.Plain.{events-append, replay-append, replay-step, stepBox}
 use Rattle.rules.proofs.Check.{refuse-ok, then-left, then-right}
 use Rattle.rules.proofs.Steps.{Ordered, Stepped}
 use Rattle.rules.proofs.Means.{given-ok, given-then}
-use Rattle.rules.proofs.Order.{apply-ok, apply-ordered, asked, in-order, isIOS, ordered-of, plain-step, stepShort, tracked-members}
+use Rattle.rules.proofs.Order.{apply-ok, apply-ordered, asked, in-order, ordered-of, stepShort, tracked-members}
 
 -- ** Every list of a call can be read
 
@@ -99,10 +99,9 @@ restore-short s cs h = go (isEmpty (cs .votersOutgoing))
 
 -- ** From s to t by the accepted steps ds
 
--- what holds besides of a state that calls lead to from the fresh one: no box is IOS, and there is a voter or nothing
-pub record Reached (s : State) : Type 0 where
-  pub plain : (x : ℕ) → isIOS (boxOf s x .standing) ≡ false
-  pub voters : isEmpty (s .conf .incoming) ≡ true → s .conf ≡ noConf
+-- what holds besides of a state that calls lead to from the fresh one: there is a voter or nothing
+abbrev pub Reached : State → Type 0
+Reached s = isEmpty (s .conf .incoming) ≡ true → s .conf ≡ noConf
 
 pub record Leads (s t : State) (ds : List Deed) : Type 0 where
   pub ordered : Ordered t
@@ -129,13 +128,6 @@ unfolding events
 leads-step s t d o e b k u ds l =
     leads-more s t u (d ∷ []) ds (record { ordered = o; inflight = e; boxes = λ x. b x ∙ rw append-nil (sym (replay-step (freshRecord (d .next) (s .maxInflight)) x (d .step) (boxOf s x))); reached = k }) l
 
-step-reached : (s : State) (n : ℕ) (p : Step) (c : Conf) (log : List Entry) → Stepped s (freshRecord n (s .maxInflight)) p c log → Reached s → Reached (applied s c log n)
-step-reached s n p c log d k =
-    record {
-      plain = λ x. ap (λ (b : Box). isIOS (b .standing)) (d .boxes x) ∙ plain-step (freshRecord n (s .maxInflight)) x p (boxOf s x) (k .plain x);
-      voters = d .voters (k .voters);
-    }
-
 run-leads : (n : ℕ) (ps : List Step) → allShort ps → (s : State) → Ordered s → Leads s (run n s ps .state) (deedsOfRun n s ps)
 unfolding run deedsOfRun
 run-leads n [] h s o = leads-none s o
@@ -147,7 +139,7 @@ run-leads n (p ∷ ps) h s o = go (ask s p) refl (run-leads n ps (h .1))
     go (accepted c log) e ih =
         let d : Stepped s (freshRecord n (s .maxInflight)) p c log = asked s o (freshRecord n (s .maxInflight)) p (h .0) c log e in
         let o′ : Ordered (applied s c log n) = apply-ordered s o n p c log d in
-        rw (apply-ok s o n p c log d) (leads-step s (applied s c log n) (record { step = p; next = n }) o′ refl (d .boxes) (step-reached s n p c log d) (run n (applied s c log n) ps .state) (deedsOfRun n (applied s c log n) ps) (ih (applied s c log n) o′))
+        rw (apply-ok s o n p c log d) (leads-step s (applied s c log n) (record { step = p; next = n }) o′ refl (d .boxes) (d .voters) (run n (applied s c log n) ps .state) (deedsOfRun n (applied s c log n) ps) (ih (applied s c log n) o′))
     go (refused m x) e ih = leads-none s o
 
 answer-leads : (s : State) → Ordered s → (n : ℕ) (p : Step) (a : Answer) → ((c : Conf) (log : List Entry) → a ≡ accepted c log → Stepped s (freshRecord n (s .maxInflight)) p c log)
@@ -155,7 +147,7 @@ answer-leads : (s : State) → Ordered s → (n : ℕ) (p : Step) (a : Answer) �
 answer-leads s o n p (accepted c log) h =
     let d : Stepped s (freshRecord n (s .maxInflight)) p c log = h c log refl in
     let o′ : Ordered (applied s c log n) = apply-ordered s o n p c log d in
-    rw (apply-ok s o n p c log d) (leads-step s (applied s c log n) (record { step = p; next = n }) o′ refl (d .boxes) (step-reached s n p c log d) (applied s c log n) [] (leads-none (applied s c log n) o′))
+    rw (apply-ok s o n p c log d) (leads-step s (applied s c log n) (record { step = p; next = n }) o′ refl (d .boxes) (d .voters) (applied s c log n) [] (leads-none (applied s c log n) o′))
 answer-leads s o n p (refused m x) h = leads-none s o
 
 pub call-leads : (s : State) → Ordered s → (c : Call) → Leads s (perform s c .state) (deedsOf s c)

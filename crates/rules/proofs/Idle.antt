@@ -10,16 +10,16 @@ use lib.Dec.{eqb, ltb}
 use lib.ListN.{length, length-append}
 use Rattle.progress.specs.Record.{freshRecord}
 use Rattle.progress.specs.declared.Progress.{Progress}
-use Rattle.rules.specs.Ids.{ascending, memb}
+use Rattle.rules.specs.Ids.{ascending}
 use Rattle.rules.specs.State.{Change, Conf, Entry, Kind, Peer, State, add, addLearner, addNode, formed, ids, remove, removeNode}
 use Rattle.rules.specs.Answers.{Answer, Verdict, _▸_, accepted, each, ok, refuse, refused}
-use Rattle.rules.specs.Check.{check, isTracked}
-use Rattle.rules.specs.Table.{Effect, I, IO, IOS, L, O, OS, Places, Standing, adds, idle, none, place, placesIn, placesOf, removes, standingIn, stays, table}
+use Rattle.rules.specs.Check.{check, isTracked, joint}
+use Rattle.rules.specs.Table.{Effect, I, IO, L, O, OS, Places, Standing, adds, idle, none, place, placesIn, placesOf, removes, standingIn, stays, table}
 use Rattle.rules.specs.Changes.{Done, Work, andThen, change, changes, done, full, logged, pending, standingNow}
 use Rattle.rules.specs.Apply.{enrol, room}
 use Rattle.rules.specs.Calls.{enterJoint, enterOf, entering, listOf, readable, simple, simpleOf, start}
 use Rattle.rules.specs.Boxes.{Box, changeBox}
-use Rattle.rules.specs.Idle.{countOf, enterIdles, enterWorks, idleRow, idles, ifAccepted, isIdle, logsNothing, movedOrLogged, oneMoreIf, rowNumber, sameStanding, simpleIdles, simpleWorks, whenDone, works}
+use Rattle.rules.specs.Idle.{countOf, enterIdles, enterWorks, idleRow, idles, ifAccepted, isIdle, logsNothing, movedOrLogged, oneMoreIf, rowNumber, simpleIdles, simpleWorks, whenDone, works}
 use Rattle.rules.proofs.Sets.{or-left}
 use Rattle.rules.proofs.Plain.{changesBox}
 use Rattle.rules.proofs.Boxes.{boxAt, spot}
@@ -27,7 +27,7 @@ use Rattle.rules.proofs.Changes.{After, Fine, Logged, change-done, logg
 use Rattle.rules.proofs.Check.{refuse-ok, then-left, then-right}
 use Rattle.rules.proofs.Means.{Enter, Simple, enter-means, given-ok, given-then, simple-means}
 use Rattle.rules.proofs.Steps.{Checked, enter-sound}
-use Rattle.rules.proofs.Applied.{checked-of}
+use Rattle.rules.proofs.Applied.{single-checked}
 use Rattle.rules.proofs.Demand3.{length-list}
 
 -- ** What the sets say
@@ -63,9 +63,6 @@ row-told IO removeNode = refl
 row-told OS addNode = refl
 row-told OS addLearner = refl
 row-told OS removeNode = refl
-row-told IOS addNode = refl
-row-told IOS addLearner = refl
-row-told IOS removeNode = refl
 
 module _ (r : Progress) (ps : List Peer) (up : ascending (ids ps) ≡ true) (c : Change) (w : Work) (f : Fine r ps up w) where
   abbrev here : Standing
@@ -182,8 +179,8 @@ module _ (s : State) (xs ks : List ℕ) (c : Conf) (log : List Entry) where
   tests = refuse (not (formed s)) 1 0 ▸ readable xs ks
 
   -- the tests were passed, and the list began on a state that passed the check
-  begun : tests ≡ ok → check (isTracked s) (s .conf) ≡ ok → Checked s
-  begun h k = checked-of s (not-false (formed s) (refuse-ok (not (formed s)) 1 0 (then-left (refuse (not (formed s)) 1 0) (readable xs ks) h))) k
+  begun : tests ≡ ok → check (isTracked s) (s .conf) ≡ ok → joint (s .conf) ≡ false → Checked s
+  begun h k = single-checked s (not-false (formed s) (refuse-ok (not (formed s)) 1 0 (then-left (refuse (not (formed s)) 1 0) (readable xs ks) h))) k
 
   as-long : tests ≡ ok → length (listOf xs ks) ≡ length xs
   as-long h = length-read xs ks (then-right (refuse (not (formed s)) 1 0) (readable xs ks) h)
@@ -193,7 +190,7 @@ module _ (s : State) (xs ks : List ℕ) (c : Conf) (log : List Entry) where
   simple-counts h =
       let g : tests ≡ ok = given-ok c log tests (simpleOf s (listOf xs ks)) h in
       let m : Simple s (listOf xs ks) c log = simple-means s c log (listOf xs ks) (given-then c log tests (simpleOf s (listOf xs ks)) h) in
-      let o : Checked s = begun g (m .checked) in
+      let o : Checked s = begun g (m .checked) (m .single) in
       rw h (all-of-it (freshRecord 0 0) (s .peers) (o .sound .ids↑) (listOf xs ks) (start (s .conf)) (m .work) (record { sound = o .sound; fits = refl; few = o .few }) (m .does) ∙ as-long g)
 
   pub enter-counts : (auto : Bool) → enterJoint s auto xs ks ≡ accepted c log → enterIdles s auto xs ks + enterWorks s auto xs ks ≡ length xs
@@ -201,5 +198,5 @@ module _ (s : State) (xs ks : List ℕ) (c : Conf) (log : List Entry) where
   enter-counts auto h =
       let g : tests ≡ ok = given-ok c log tests (enterOf s auto (listOf xs ks)) h in
       let m : Enter s auto (listOf xs ks) c log = enter-means s c log auto (listOf xs ks) (given-then c log tests (enterOf s auto (listOf xs ks)) h) in
-      let o : Checked s = begun g (m .checked) in
+      let o : Checked s = begun g (m .checked) (m .single) in
       rw h (all-of-it (freshRecord 0 0) (s .peers) (o .sound .ids↑) (listOf xs ks) (start (entering (s .conf))) (m .work) (record { sound = enter-sound (s .conf) (s .peers) (o .sound) (m .single); fits = refl; few = o .few }) (m .does) ∙ as-long g)

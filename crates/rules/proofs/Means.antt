@@ -1,6 +1,6 @@
 -- What it means that a call is accepted: the tests that it passed, and the work that it did. Assumes nothing.
 use Prim.Native.Nat.{ℕ}
-use mathlib.Core.Path.{_≡_, refl}
+use mathlib.Core.Path.{_≡_, refl, _∙_}
 use mathlib.Core.Bool.{Bool, true, false, not}
 use mathlib.Core.List.{List}
 use native.Mathlib.Omega.{arith}
@@ -13,7 +13,8 @@ use Rattle.rules.specs.Check.{joint, check, isTracked}
 use Rattle.rules.specs.Changes.{pendingTracked, Work, Done, done, full, changes}
 use Rattle.rules.specs.Calls.{start, afterwards, difference, simpleOf, entering, withAuto, enterOf, leaving, gone, removals, leaveOf}
 use Rattle.rules.specs.Restore.{Step, simpleStep, enterStep, leaveStep, ask}
-use Rattle.rules.proofs.Check.{then-left, then-right, refuse-ok}
+use Rattle.rules.proofs.Sets.{memb-all}
+use Rattle.rules.proofs.Check.{Apart, then-left, then-right, passes-of, refuse-ok, single-apart}
 
 -- ** Reading an accepted answer
 
@@ -175,3 +176,16 @@ unfolding ask
 asked-passes s (simpleStep cs) c log h = simple-means s c log cs h .checked
 asked-passes s (enterStep auto cs) c log h = enter-means s c log auto cs h .checked
 asked-passes s leaveStep c log h = leave-means s c log h .checked
+
+-- and no staged id of it is an incoming voter: there are none, or they would now be learners
+pub asked-apart : (s : State) (p : Step) (c : Conf) (log : List Entry) → ask s p ≡ accepted c log → Apart (s .conf)
+unfolding ask
+asked-apart s (simpleStep cs) c log h =
+    let m : Simple s cs c log = simple-means s c log cs h in
+    single-apart (isTracked s) (s .conf) (passes-of (isTracked s) (s .conf) (m .checked)) (m .single)
+asked-apart s (enterStep auto cs) c log h =
+    let m : Enter s auto cs c log = enter-means s c log auto cs h in
+    single-apart (isTracked s) (s .conf) (passes-of (isTracked s) (s .conf) (m .checked)) (m .single)
+asked-apart s leaveStep c log h =
+    λ x m. passes-of (pendingTracked (ids (s .peers)) (removals (gone (s .conf)))) (leaving (s .conf)) (leave-means s c log h .again) .learner-not-incoming x
+    (memb-all x (s .conf .staged) (s .conf .learners) ∙ rw m)

@@ -9,51 +9,24 @@ use lib.Dec.{eqb}
 use lib.ListN.{length}
 use Rattle.progress.specs.Record.{freshRecord}
 use Rattle.progress.specs.declared.Progress.{Progress}
-use Rattle.rules.specs.Ids.{insertAll, memb, sameIds}
+use Rattle.rules.specs.Ids.{apart, insertAll, memb, sameIds}
 use Rattle.rules.specs.State.{logFormed, Change, Conf, Entry, Kind, Peer, State, addLearner, addNode, confFormed, formed, ids, members, removeNode}
 use Rattle.rules.specs.Answers.{Verdict, accepted, fault, ok, passes}
 use Rattle.rules.specs.Check.{check, inOrder, isTracked}
-use Rattle.rules.specs.Table.{I, IO, IOS, L, O, OS, Places, Standing, idle, none, placesOf, standingIn, table}
+use Rattle.rules.specs.Table.{I, IO, L, O, OS, Places, Standing, idle, none, placesOf, standingIn, table}
 use Rattle.rules.specs.Changes.{pendingTracked}
 use Rattle.rules.specs.Apply.{applied, applyConf, enrol}
 use Rattle.rules.specs.Restore.{Step, ask, enterStep, leaveStep, simpleStep}
 use Rattle.rules.specs.Boxes.{Box, boxOf, changeBox, enterBox, enterStanding, leaveStanding}
-use Rattle.rules.proofs.Sets.{and-left, and-right, ascending-all, ascending-ext, ids-same, length-part, memb-all, same-ids}
+use Rattle.rules.proofs.Sets.{and-left, and-right, apart-of, ascending-all, ascending-ext, ids-same, length-part, memb-all, of-apart, same-ids}
 use Rattle.rules.proofs.Plain.{changesBox, stepBox}
 use Rattle.rules.proofs.Boxes.{Sound, spot}
 use Rattle.rules.proofs.Changes.{ids-enrol, last-says}
 use Rattle.rules.proofs.Formed.{of-sets, Whole, whole-of}
-use Rattle.rules.proofs.Check.{Passes, passes-of, stands-of}
+use Rattle.rules.proofs.Check.{Apart, Passes, passes-of, stands-of}
 use Rattle.rules.proofs.Steps.{Checked, Ordered, Stepped, enter-stepped, isIdle, leave-stepped, ordered-checked, simple-stepped}
 
--- ** No step makes a box idle or IOS, and none names 0
-
--- a test of standings that fails after every change, and is kept by entering and leaving
-module _ (P : Standing → Bool) (rows : (st : Standing) (k : Kind) → P (table st k .0) ≡ false)
-    (enters : (st : Standing) → P st ≡ false → P (enterStanding st) ≡ false) (leaves : (st : Standing) → P st ≡ false → P (leaveStanding st) ≡ false) where
-  never-changes : (r : Progress) (x : ℕ) (cs : List Change) (b : Box) → P (b .standing) ≡ false → P (changesBox r x cs b .standing) ≡ false
-  unfolding changesBox
-  never-changes r x [] b h = h
-  never-changes r x (c ∷ cs) b h = never-changes r x cs (cond (eqb (c .id) x && not (eqb x 0)) (changeBox r (c .kind) b) b) (go (eqb (c .id) x && not (eqb x 0)))
-    where
-      go : (t : Bool) → P (cond t (changeBox r (c .kind) b) b .standing) ≡ false
-      go true = rows (b .standing) (c .kind)
-      go false = h
-
-  never-step : (r : Progress) (x : ℕ) (p : Step) (b : Box) → P (b .standing) ≡ false → P (stepBox r x p b .standing) ≡ false
-  never-step r x (simpleStep cs) b h = never-changes r x cs b h
-  never-step r x (enterStep a cs) b h = never-changes r x cs (enterBox b) (enters (b .standing) h)
-  never-step r x leaveStep b h = leaves (b .standing) h
-
-abbrev pub isIOS : Standing → Bool
-isIOS none = false
-isIOS idle = false
-isIOS I = false
-isIOS L = false
-isIOS O = false
-isIOS IO = false
-isIOS OS = false
-isIOS IOS = true
+-- ** No step makes a box idle, and none names 0
 
 busy-row : (st : Standing) (k : Kind) → isIdle (table st k .0) ≡ false
 unfolding table
@@ -78,9 +51,6 @@ busy-row IO removeNode = refl
 busy-row OS addNode = refl
 busy-row OS addLearner = refl
 busy-row OS removeNode = refl
-busy-row IOS addNode = refl
-busy-row IOS addLearner = refl
-busy-row IOS removeNode = refl
 
 busy-enter : (st : Standing) → isIdle st ≡ false → isIdle (enterStanding st) ≡ false
 busy-enter none h = refl
@@ -90,7 +60,6 @@ busy-enter L h = refl
 busy-enter O h = refl
 busy-enter IO h = refl
 busy-enter OS h = refl
-busy-enter IOS h = refl
 
 busy-leave : (st : Standing) → isIdle st ≡ false → isIdle (leaveStanding st) ≡ false
 busy-leave none h = refl
@@ -100,60 +69,20 @@ busy-leave L h = refl
 busy-leave O h = refl
 busy-leave IO h = refl
 busy-leave OS h = refl
-busy-leave IOS h = refl
+
+busy-changes : (r : Progress) (x : ℕ) (cs : List Change) (b : Box) → isIdle (b .standing) ≡ false → isIdle (changesBox r x cs b .standing) ≡ false
+unfolding changesBox
+busy-changes r x [] b h = h
+busy-changes r x (c ∷ cs) b h = busy-changes r x cs (cond (eqb (c .id) x && not (eqb x 0)) (changeBox r (c .kind) b) b) (go (eqb (c .id) x && not (eqb x 0)))
+  where
+    go : (t : Bool) → isIdle (cond t (changeBox r (c .kind) b) b .standing) ≡ false
+    go true = busy-row (b .standing) (c .kind)
+    go false = h
 
 pub busy-step : (r : Progress) (x : ℕ) (p : Step) (b : Box) → isIdle (b .standing) ≡ false → isIdle (stepBox r x p b .standing) ≡ false
-busy-step = never-step isIdle busy-row busy-enter busy-leave
-
-plain-row : (st : Standing) (k : Kind) → isIOS (table st k .0) ≡ false
-unfolding table
-plain-row none addNode = refl
-plain-row none addLearner = refl
-plain-row none removeNode = refl
-plain-row idle addNode = refl
-plain-row idle addLearner = refl
-plain-row idle removeNode = refl
-plain-row I addNode = refl
-plain-row I addLearner = refl
-plain-row I removeNode = refl
-plain-row L addNode = refl
-plain-row L addLearner = refl
-plain-row L removeNode = refl
-plain-row O addNode = refl
-plain-row O addLearner = refl
-plain-row O removeNode = refl
-plain-row IO addNode = refl
-plain-row IO addLearner = refl
-plain-row IO removeNode = refl
-plain-row OS addNode = refl
-plain-row OS addLearner = refl
-plain-row OS removeNode = refl
-plain-row IOS addNode = refl
-plain-row IOS addLearner = refl
-plain-row IOS removeNode = refl
-
-plain-enter : (st : Standing) → isIOS st ≡ false → isIOS (enterStanding st) ≡ false
-plain-enter none h = refl
-plain-enter idle h = refl
-plain-enter I h = refl
-plain-enter L h = refl
-plain-enter O h = refl
-plain-enter IO h = refl
-plain-enter OS h = refl
-plain-enter IOS h = h
-
-plain-leave : (st : Standing) → isIOS st ≡ false → isIOS (leaveStanding st) ≡ false
-plain-leave none h = refl
-plain-leave idle h = refl
-plain-leave I h = refl
-plain-leave L h = refl
-plain-leave O h = refl
-plain-leave IO h = refl
-plain-leave OS h = refl
-plain-leave IOS h = h
-
-pub plain-step : (r : Progress) (x : ℕ) (p : Step) (b : Box) → isIOS (b .standing) ≡ false → isIOS (stepBox r x p b .standing) ≡ false
-plain-step = never-step isIOS plain-row plain-enter plain-leave
+busy-step r x (simpleStep cs) b h = busy-changes r x cs b h
+busy-step r x (enterStep a cs) b h = busy-changes r x cs (enterBox b) (busy-enter (b .standing) h)
+busy-step r x leaveStep b h = busy-leave (b .standing) h
 
 pub zero-changes : (r : Progress) (cs : List Change) (b : Box) → changesBox r 0 cs b ≡ b
 unfolding changesBox
@@ -252,7 +181,6 @@ member-places L h = refl
 member-places O h = refl
 member-places IO h = refl
 member-places OS h = refl
-member-places IOS h = refl
 
 places-member : (st : Standing) → placesOf st .tracked ≡ isMember (placesOf st) → isIdle st ≡ false
 places-member none h = refl
@@ -262,7 +190,6 @@ places-member L h = refl
 places-member O h = refl
 places-member IO h = refl
 places-member OS h = refl
-places-member IOS h = refl
 
 -- the tracked are exactly the members
 pub tracked-members : (s : State) → Ordered s → (y : ℕ) → memb y (ids (s .peers)) ≡ memb y (members (s .conf))
@@ -277,14 +204,17 @@ ordered-of s h =
     let c : Conf = s .conf in
     let xs : List ℕ = ids (s .peers) in
     let nowhere : Bool = not (memb 0 xs) && not (memb 0 (members c)) in
-    let h3 : formed s && passes (check (isTracked s) c) && nowhere ≡ true = and-left (formed s && passes (check (isTracked s) c) && nowhere) (sameIds xs (members c)) h in
+    let away : Bool = apart (c .staged) (c .incoming) in
+    let h4 : formed s && passes (check (isTracked s) c) && nowhere && sameIds xs (members c) ≡ true = and-left (formed s && passes (check (isTracked s) c) && nowhere && sameIds xs (members c)) away h in
+    let h3 : formed s && passes (check (isTracked s) c) && nowhere ≡ true = and-left (formed s && passes (check (isTracked s) c) && nowhere) (sameIds xs (members c)) h4 in
     let h2 : formed s && passes (check (isTracked s) c) ≡ true = and-left (formed s && passes (check (isTracked s) c)) nowhere h3 in
     let f : formed s ≡ true = and-left (formed s) (passes (check (isTracked s) c)) h2 in
     let k : check (isTracked s) c ≡ ok = passes-ok (check (isTracked s) c) (and-right (formed s) (passes (check (isTracked s) c)) h2) in
     let z : memb 0 xs ≡ false = not-true (memb 0 xs) (and-left (not (memb 0 xs)) (not (memb 0 (members c))) (and-right (formed s && passes (check (isTracked s) c)) nowhere h3)) in
-    let e : xs ≡ members c = same-ids xs (members c) (and-right (formed s && passes (check (isTracked s) c) && nowhere) (sameIds xs (members c)) h) in
+    let e : xs ≡ members c = same-ids xs (members c) (and-right (formed s && passes (check (isTracked s) c) && nowhere) (sameIds xs (members c)) h4) in
+    let a : Apart c = of-apart (c .staged) (c .incoming) (and-right (formed s && passes (check (isTracked s) c) && nowhere && sameIds xs (members c)) away h) in
     let w : Whole s = whole-of s f in
-    let st : (y : ℕ) → spot c (s .peers) y ≡ placesOf (standingIn (spot c (s .peers) y)) = stands-of (isTracked s) c (passes-of (isTracked s) c k) in
+    let st : (y : ℕ) → spot c (s .peers) y ≡ placesOf (standingIn (spot c (s .peers) y)) = stands-of (isTracked s) c (passes-of (isTracked s) c k) a in
     record {
       sound = record {
         incoming↑ = w .sets .incoming .rises;
@@ -303,10 +233,26 @@ ordered-of s h =
     busy : (y : ℕ) (st : Standing) → spot (s .conf) (s .peers) y ≡ placesOf st → memb y (ids (s .peers)) ≡ isMember (spot (s .conf) (s .peers) y) → isIdle st ≡ false
     busy y st q e = places-member st (sym (ap (λ (p : Places). p .tracked) q) ∙ e ∙ ap isMember q)
 
+-- no box is both staged and an incoming voter
+one-role : (st : Standing) → placesOf st .staged ≡ true → placesOf st .incoming ≡ false
+one-role none m = refl
+one-role idle m = refl
+one-role I m = absurd (false≢true m)
+one-role L m = refl
+one-role O m = refl
+one-role IO m = absurd (false≢true m)
+one-role OS m = refl
+
+pub staged-apart : (s : State) → Ordered s → Apart (s .conf)
+staged-apart s o x m = go (standingIn (spot (s .conf) (s .peers) x)) (o .sound .stands x)
+  where
+    go : (st : Standing) → spot (s .conf) (s .peers) x ≡ placesOf st → memb x (s .conf .incoming) ≡ false
+    go st q = ap (λ (p : Places). p .incoming) q ∙ one-role st (sym (ap (λ (p : Places). p .staged) q) ∙ m)
+
 pub in-order : (s : State) → Ordered s → inOrder s ≡ true
 unfolding inOrder
 in-order s o =
-    rw (formed-of s o, o .checked, ← same, zero-out) (ids-same (ids (s .peers)))
+    rw (formed-of s o, o .checked, ← same, zero-out, ids-same (ids (s .peers)), apart-of (s .conf .staged) (s .conf .incoming) (staged-apart s o))
   where
     zero-out : memb 0 (ids (s .peers)) ≡ false
     zero-out = ap (λ (p : Places). p .tracked) (o .sound .stands 0) ∙ ap (λ (t : Standing). placesOf t .tracked) (o .zero)

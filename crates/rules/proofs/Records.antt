@@ -9,7 +9,7 @@ use Rattle.progress.specs.Record.{freshRecord}
 use Rattle.rules.specs.Ids.{memb}
 use Rattle.rules.specs.State.{Peer, State, ids, fresh, Change, ConfState}
 use Rattle.rules.specs.Answers.{Verdict, ok, fault}
-use Rattle.rules.specs.Table.{Standing, none, idle, I, L, O, IO, OS, IOS, Effect, stays, adds, removes, table}
+use Rattle.rules.specs.Table.{Standing, none, idle, I, L, O, IO, OS, Effect, stays, adds, removes, table}
 use Rattle.rules.specs.Restore.{Step, simpleStep, enterStep, leaveStep, attempt, restorable, restoreSteps, restore}
 use Rattle.rules.specs.Sequences.{restoreCall, perform, ifOk, deedsOfRun, deedsOf}
 use Rattle.rules.specs.Boxes.{Found, absent, found, recordOf, Box, boxOf, kept, changeBox, enterBox, leaveRecord, named, replay, naming, stepEvents, events}
@@ -35,7 +35,6 @@ only-left r L f h = h
 only-left r O f h = tt
 only-left r IO f h = h
 only-left r OS f h = h
-only-left r IOS f h = h
 
 only-naming : (r : Progress) (x : ℕ) (cs : List Change) (b : Box) → Only r (b .held) → Only r (replay (naming r x cs) b .held)
 unfolding replay naming

@@ -1,4 +1,5 @@
--- A configuration that was reached from the fresh state, written out and restored to fresh, comes back the same. Assumes nothing.
+-- A configuration in order that has an incoming voter or is empty, and so one that was reached from the fresh state, written out and restored to
+-- fresh, comes back the same. Assumes nothing.
 use Prim.Native.Nat.{ℕ, zero, _+_, _≤_}
 use mathlib.Core.Path.{_≡_, refl, ap, _∙_, sym}
 use mathlib.Core.Bool.{Bool, true, false, _&&_, _||_, not, cond, true≢false, false≢true}
@@ -9,11 +10,11 @@ use lib.Dec.{eqb}
 use lib.ListN.{length, length-append}
 use Rattle.progress.specs.Record.{freshRecord}
 use Rattle.progress.specs.declared.Progress.{Progress}
-use Rattle.rules.specs.Ids.{ascending, insertAll, isEmpty, memb, sameIds}
+use Rattle.rules.specs.Ids.{apart, ascending, insertAll, isEmpty, memb, sameIds}
 use Rattle.rules.specs.State.{Change, Conf, ConfState, Kind, State, addLearner, addNode, confFormed, formed, fresh, ids, noConf, removeNode}
 use Rattle.rules.specs.Answers.{Outcome, accepted, each, ok}
 use Rattle.rules.specs.Check.{check, inOrder, isTracked, joint}
-use Rattle.rules.specs.Table.{I, IO, IOS, L, O, OS, Places, Standing, idle, none, placesOf, standingIn, table}
+use Rattle.rules.specs.Table.{I, IO, L, O, OS, Places, Standing, idle, none, placesOf, standingIn, table}
 use Rattle.rules.specs.Changes.{Work, changes, done}
 use Rattle.rules.specs.Calls.{enterOf, entering, start, withAuto}
 use Rattle.rules.specs.Apply.{applied, enrol, toConfState}
@@ -27,7 +28,7 @@ use Rattle.rules.proofs.Boxes.{Sound, boxAt, spot}
 use Rattle.rules.proofs.Changes.{After, changes-done, now}
 use Rattle.rules.proofs.Check.{Passes, passes-of}
 use Rattle.rules.proofs.Steps.{Ordered, Stepped, enter-box, isIdle, no-joint}
-use Rattle.rules.proofs.Order.{apply-ok, apply-ordered, asked, formed-of, isIOS, ordered-of}
+use Rattle.rules.proofs.Order.{apply-ok, apply-ordered, asked, formed-of, ordered-of}
 use Rattle.rules.proofs.Demand3.{Leads, Reached, calls-lead, length-of}
 use Rattle.rules.proofs.Records.{restored-records}
 use Rattle.rules.proofs.Accept.{Within, changes-fit, enter-accepted, fine-enter, inside}
@@ -44,7 +45,6 @@ again r addNode L f = refl
 again r addNode O f = refl
 again r addNode IO f = refl
 again r addNode OS f = refl
-again r addNode IOS f = refl
 again r addLearner none f = refl
 again r addLearner idle f = refl
 again r addLearner I f = refl
@@ -52,7 +52,6 @@ again r addLearner L f = refl
 again r addLearner O f = refl
 again r addLearner IO f = refl
 again r addLearner OS f = refl
-again r addLearner IOS f = refl
 again r removeNode none f = refl
 again r removeNode idle f = refl
 again r removeNode I f = refl
@@ -60,7 +59,6 @@ again r removeNode L f = refl
 again r removeNode O f = refl
 again r removeNode IO f = refl
 again r removeNode OS f = refl
-again r removeNode IOS f = refl
 
 changes-all : (r : Progress) (y : ℕ) (k : Kind) (xs : List ℕ) → eqb y 0 ≡ false → (b : Box) → changesBox r y (all k xs) b ≡ cond (memb y xs) (changeBox r k b) b
 unfolding changesBox all memb
@@ -99,18 +97,16 @@ alone-same r L b o = refl
 alone-same r O b o = absurd (true≢false o)
 alone-same r IO b o = absurd (true≢false o)
 alone-same r OS b o = absurd (true≢false o)
-alone-same r IOS b o = absurd (true≢false o)
 
-jointly-same : (r q : Progress) (st : Standing) → isIdle st ≡ false → isIOS st ≡ false → jointly r q (placesOf st) .standing ≡ st
+jointly-same : (r q : Progress) (st : Standing) → isIdle st ≡ false → jointly r q (placesOf st) .standing ≡ st
 unfolding table
-jointly-same r q none b o = refl
-jointly-same r q idle b o = absurd (true≢false b)
-jointly-same r q I b o = refl
-jointly-same r q L b o = refl
-jointly-same r q O b o = refl
-jointly-same r q IO b o = refl
-jointly-same r q OS b o = refl
-jointly-same r q IOS b o = absurd (true≢false o)
+jointly-same r q none b = refl
+jointly-same r q idle b = absurd (true≢false b)
+jointly-same r q I b = refl
+jointly-same r q L b = refl
+jointly-same r q O b = refl
+jointly-same r q IO b = refl
+jointly-same r q OS b = refl
 
 -- ** Two states with the same standings have the same configuration
 
@@ -135,8 +131,8 @@ module _ (s t : State) (v : Sound (s .conf) (s .peers)) (w : Sound (t .conf) (t 
 
 -- ** The fresh state
 
-fresh-in-order : (m : ℕ) → inOrder (fresh m) ≡ true
-unfolding inOrder formed confFormed ascending check each insertAll memb sameIds ids
+pub fresh-in-order : (m : ℕ) → inOrder (fresh m) ≡ true
+unfolding inOrder apart formed confFormed ascending check each insertAll memb sameIds ids
 fresh-in-order m = refl
 
 fresh-box : (m y : ℕ) → boxOf (fresh m) y ≡ nothing
@@ -144,7 +140,7 @@ unfolding memb ids standingIn recordOf
 fresh-box m y = refl
 
 fresh-reached : (m : ℕ) → Reached (fresh m)
-fresh-reached m = record { plain = λ x. ap (λ (b : Box). isIOS (b .standing)) (fresh-box m x); voters = λ e. refl }
+fresh-reached m e = refl
 
 -- ** Restoring
 
@@ -289,7 +285,7 @@ module _ (s : State) (o : Ordered s) (k : Reached s) (m n : ℕ) where
             (ran-more n T T↑ (o .few) (A .end) (oneByOne (all addLearner lrn)) (oneByOne (all addLearner stg)) (all addLearner lrn) (all addLearner stg) B C))
 
         go : (b : Bool) → isEmpty inc ≡ b → Ran n T f (oneByOne (all addNode inc ++ (all addLearner lrn ++ all addLearner stg))) (all addNode inc ++ (all addLearner lrn ++ all addLearner stg))
-        go true e = none-ran (k .voters e)
+        go true e = none-ran (k e)
         go false e = some-ran (first inc e)
 
     single-back : Same s (run n f (oneByOne (wanted lists)))
@@ -323,10 +319,10 @@ module _ (s : State) (o : Ordered s) (k : Reached s) (m n : ℕ) where
     up′ = ou .sound .ids↑
 
     jointly-spot : (y : ℕ) → jointly r r′ (spot (s .conf) (s .peers) y) .standing ≡ boxOf s y .standing
-    jointly-spot y = go (boxOf s y .standing) (o .sound .stands y) (o .busy y) (k .plain y)
+    jointly-spot y = go (boxOf s y .standing) (o .sound .stands y) (o .busy y)
       where
-        go : (st : Standing) → spot (s .conf) (s .peers) y ≡ placesOf st → isIdle st ≡ false → isIOS st ≡ false → jointly r r′ (spot (s .conf) (s .peers) y) .standing ≡ st
-        go st q b i = ap (λ (e : Places). jointly r r′ e .standing) q ∙ jointly-same r r′ st b i
+        go : (st : Standing) → spot (s .conf) (s .peers) y ≡ placesOf st → isIdle st ≡ false → jointly r r′ (spot (s .conf) (s .peers) y) .standing ≡ st
+        go st q b = ap (λ (e : Places). jointly r r′ e .standing) q ∙ jointly-same r r′ st b
 
     inside-all : (i : Kind) (xs : List ℕ) → ((x : ℕ) → memb x xs ≡ true → memb x T ≡ true) → (ds : List Change) → inside r′ (u .peers) up′ T T↑ (o .few) ds → inside r′ (u .peers) up′ T T↑ (o .few) (all i xs ++ ds)
     unfolding all memb
@@ -363,7 +359,7 @@ module _ (s : State) (o : Ordered s) (k : Reached s) (m n : ℕ) where
         ap (λ (b : Box). b .standing) (a .boxes y ∙ ap (changesBox r′ y cs) (enter-box (u .conf) (u .peers) (ou .sound) ju y ∙ ap enterBox (added-box out (p .outgoing-tracked) y z)) ∙ joint-box y z) ∙ jointly-spot y
 
     voters : isEmpty inc ≡ false
-    voters = not-both (isEmpty inc) (λ e. true≢false (sym j ∙ ap joint (k .voters e)))
+    voters = not-both (isEmpty inc) (λ e. true≢false (sym j ∙ ap joint (k e)))
 
     left : isEmpty (u .conf .incoming) ≡ false
     left = go (first out (not-true (isEmpty out) j))
@@ -452,7 +448,14 @@ module _ (s : State) (o : Ordered s) (k : Reached s) (m n : ℕ) where
 
 -- ** The round trip
 
--- from any calls, to fresh with any `max_inflight` l and any `next_idx` n
+-- to fresh with any `max_inflight` l and any `next_idx` n: in order, with an incoming voter or empty
+pub order-trip : (s : State) → inOrder s ≡ true → isEmpty (s .conf .incoming) ≡ false → (l n : ℕ) → ComesBack s l n
+order-trip s h v = comes-back s (ordered-of s h) (λ e. absurd (true≢false (sym e ∙ v)))
+
+pub empty-trip : (s : State) → inOrder s ≡ true → s .conf ≡ noConf → (l n : ℕ) → ComesBack s l n
+empty-trip s h e = comes-back s (ordered-of s h) (λ i. e)
+
+-- from any calls
 pub round-trip : (m l n : ℕ) (cs : List Call) → ComesBack (afterCalls (fresh m) cs) l n
 round-trip m l n cs =
     let leads : Leads (fresh m) (afterCalls (fresh m) cs) (deeds (fresh m) cs) = calls-lead cs (fresh m) (ordered-of (fresh m) (fresh-in-order m)) in

@@ -4,10 +4,10 @@ use mathlib.Core.Path.{_≡_, refl, ap, _∙_, sym}
 use mathlib.Core.Bool.{Bool, true, false, _&&_, _||_, not, cond, true≢false, false≢true}
 use mathlib.Core.List.{List, [], _∷_}
 use native.Mathlib.Omega.{arith}
-use borrow.Author.Tests.{eq-eqb, ne-eqb, lt-ltb, ltb-true, ltb-false, eqb-true, eqb-false}
+use borrow.Author.Tests.{eq-eqb, ne-eqb, lt-ltb, ltb-true, ltb-false, eqb-true, eqb-false, not-true}
 use lib.Dec.{eqb, ltb}
 use lib.ListN.{length}
-use Rattle.rules.specs.Ids.{above, ascending, insertAll, insertId, isEmpty, memb, minus, removeId, sameIds}
+use Rattle.rules.specs.Ids.{above, apart, ascending, insertAll, insertId, isEmpty, memb, minus, removeId, sameIds}
 
 -- parts of a test
 pub or-left : (a b : Bool) → a || b ≡ false → a ≡ false
@@ -173,6 +173,20 @@ insert-same x (z ∷ zs) a m = go (insert-same x zs (rising-tail z zs a)) (ltb z
 pub memb-head : (y : ℕ) (ys : List ℕ) → memb y (y ∷ ys) ≡ true
 unfolding memb
 memb-head y ys = rw (eq-eqb y y refl)
+
+pub apart-of : (xs ys : List ℕ) → ((x : ℕ) → memb x xs ≡ true → memb x ys ≡ false) → apart xs ys ≡ true
+unfolding apart memb
+apart-of [] ys h = refl
+apart-of (x ∷ xs) ys h = rw (h x (memb-head x xs)) (apart-of xs ys (λ y m. h y (or-true (eqb x y) (memb y xs) m)))
+
+pub of-apart : (xs ys : List ℕ) → apart xs ys ≡ true → (x : ℕ) → memb x xs ≡ true → memb x ys ≡ false
+unfolding apart memb
+of-apart [] ys h x m = absurd (false≢true m)
+of-apart (y ∷ xs) ys h x m = go (eqb y x) refl m (of-apart xs ys (and-right (not (memb y ys)) (apart xs ys) h) x)
+  where
+    go : (b : Bool) → eqb y x ≡ b → b || memb x xs ≡ true → (memb x xs ≡ true → memb x ys ≡ false) → memb x ys ≡ false
+    go true e m ih = ap (λ (z : ℕ). memb z ys) (sym (eqb-true y x e)) ∙ not-true (memb y ys) (and-left (not (memb y ys)) (apart xs ys) h)
+    go false e m ih = ih m
 
 pub memb-before : (x y : ℕ) (ys : List ℕ) → above y ys ≡ true → x < y → memb x (y ∷ ys) ≡ false
 unfolding memb

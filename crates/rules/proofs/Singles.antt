@@ -13,7 +13,7 @@ use Rattle.rules.specs.Ids.{above, ascending, isEmpty, memb, minus}
 use Rattle.rules.specs.State.{Change, Conf, Kind, Peer, State, addLearner, addNode, ids}
 use Rattle.rules.specs.Answers.{Verdict, accepted, fault, ok}
 use Rattle.rules.specs.Check.{joint}
-use Rattle.rules.specs.Table.{I, IO, IOS, L, O, OS, Places, Standing, idle, none, placesOf, table}
+use Rattle.rules.specs.Table.{I, IO, L, O, OS, Places, Standing, idle, none, placesOf, table}
 use Rattle.rules.specs.Changes.{Work, changes, done}
 use Rattle.rules.specs.Calls.{difference, simpleOf, start}
 use Rattle.rules.specs.Apply.{applied, enrol}
@@ -122,7 +122,6 @@ voter-row L = refl
 voter-row O = refl
 voter-row IO = refl
 voter-row OS = refl
-voter-row IOS = refl
 
 learner-row : (st : Standing) → placesOf (table st addLearner .0) .incoming ≡ false
 unfolding table
@@ -133,7 +132,6 @@ learner-row L = refl
 learner-row O = refl
 learner-row IO = refl
 learner-row OS = refl
-learner-row IOS = refl
 
 pub changes-append : (r : Progress) (y : ℕ) (cs ds : List Change) (b : Box) → changesBox r y (cs ++ ds) b ≡ changesBox r y ds (changesBox r y cs b)
 unfolding changesBox

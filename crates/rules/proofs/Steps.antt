@@ -12,7 +12,7 @@ use Rattle.rules.specs.Ids.{ascending, insertAll, isEmpty, memb, minus, 
 use Rattle.rules.specs.State.{Change, Conf, Entry, Peer, State, ids, noConf}
 use Rattle.rules.specs.Answers.{accepted, ok}
 use Rattle.rules.specs.Check.{check, isTracked, joint}
-use Rattle.rules.specs.Table.{I, IO, IOS, L, O, OS, Places, Standing, idle, none, places, placesOf, standingIn}
+use Rattle.rules.specs.Table.{I, IO, L, O, OS, Places, Standing, idle, none, places, placesOf, standingIn}
 use Rattle.rules.specs.Changes.{Work, pending, pendingTracked}
 use Rattle.rules.specs.Calls.{enterOf, entering, gone, leaveOf, leaving, removals, simpleOf, start, withAuto}
 use Rattle.rules.specs.Apply.{enrol, room, untrack}
@@ -34,7 +34,6 @@ isIdle L = false
 isIdle O = false
 isIdle IO = false
 isIdle OS = false
-isIdle IOS = false
 
 -- what `inOrder` says, by parts
 pub record Ordered (s : State) : Type 0 where
@@ -44,7 +43,7 @@ pub record Ordered (s : State) : Type 0 where
   pub zero : standingIn (spot (s .conf) (s .peers) 0) ≡ none
   pub busy : (y : ℕ) → isIdle (standingIn (spot (s .conf) (s .peers) y)) ≡ false
 
--- what the check alone gives of a well-formed state, in order or not
+-- what the check gives of a well-formed state in which no box is both staged and an incoming voter, in order or not
 pub record Checked (s : State) : Type 0 where
   pub sound : Sound (s .conf) (s .peers)
   pub few : length (ids (s .peers)) ≤ 64
@@ -77,7 +76,6 @@ enter-places L h = refl
 enter-places O h = absurd (true≢false h)
 enter-places IO h = absurd (true≢false h)
 enter-places OS h = absurd (true≢false h)
-enter-places IOS h = absurd (true≢false h)
 
 module _ (c : Conf) (ps : List Peer) (s : Sound c ps) (h : joint c ≡ false) where
   enter-spot : (y : ℕ) (st : Standing) → spot c ps y ≡ placesOf st → spot (entering c) ps y ≡ placesOf (enterStanding st)
@@ -173,38 +171,32 @@ length-minus (x ∷ xs) ys = go (memb x ys) (length-minus xs ys)
 abbrev isGone : Places → Bool
 isGone p = p .outgoing && not (p .incoming) && not (p .staged || p .learner)
 
-leave-places : (st : Standing) → ((placesOf st .staged || placesOf st .learner) ≡ true → placesOf st .incoming ≡ false)
+leave-places : (st : Standing)
     → places (placesOf st .tracked && not (isGone (placesOf st))) (placesOf st .incoming) false (placesOf st .staged || placesOf st .learner) false ≡ placesOf (leaveStanding st)
-leave-places none h = refl
-leave-places idle h = refl
-leave-places I h = refl
-leave-places L h = refl
-leave-places O h = refl
-leave-places IO h = refl
-leave-places OS h = refl
-leave-places IOS h = absurd (true≢false (h refl))
+leave-places none = refl
+leave-places idle = refl
+leave-places I = refl
+leave-places L = refl
+leave-places O = refl
+leave-places IO = refl
+leave-places OS = refl
 
-leave-record : (st : Standing) (f : Found) → ((placesOf st .staged || placesOf st .learner) ≡ true → placesOf st .incoming ≡ false)
+leave-record : (st : Standing) (f : Found)
     → cond (isGone (placesOf st)) absent f ≡ leaveRecord st f
-leave-record none f h = refl
-leave-record idle f h = refl
-leave-record I f h = refl
-leave-record L f h = refl
-leave-record O f h = refl
-leave-record IO f h = refl
-leave-record OS f h = refl
-leave-record IOS f h = absurd (true≢false (h refl))
+leave-record none f = refl
+leave-record idle f = refl
+leave-record I f = refl
+leave-record L f = refl
+leave-record O f = refl
+leave-record IO f = refl
+leave-record OS f = refl
 
 pub memb-gone : (c : Conf) (y : ℕ) → memb y (gone c) ≡ memb y (c .outgoing) && not (memb y (c .incoming)) && not (memb y (c .staged) || memb y (c .learners))
 memb-gone c y = rw (memb-minus y (minus (c .outgoing) (c .incoming)) (insertAll (c .staged) (c .learners)), memb-minus y (c .outgoing) (c .incoming), memb-all y (c .staged) (c .learners))
 
-module _ (r : Progress) (c : Conf) (ps : List Peer) (s : Sound c ps) (h : (x : ℕ) → memb x (leaving c .learners) ≡ true → memb x (c .incoming) ≡ false) where
+module _ (r : Progress) (c : Conf) (ps : List Peer) (s : Sound c ps) where
   abbrev ps′ : List Peer
   ps′ = enrol r (removals (gone c)) ps
-
-  apart : (y : ℕ) (st : Standing) → spot c ps y ≡ placesOf st → (placesOf st .staged || placesOf st .learner) ≡ true → placesOf st .incoming ≡ false
-  apart y st q m =
-      sym (ap (λ (p : Places). p .incoming) q) ∙ h y (memb-all y (c .staged) (c .learners) ∙ rw (ap (λ (p : Places). p .staged) q, ap (λ (p : Places). p .learner) q) m)
 
   pub leave-spot : (y : ℕ) (st : Standing) → spot c ps y ≡ placesOf st → spot (leaving c) ps′ y ≡ placesOf (leaveStanding st)
   unfolding memb
@@ -219,7 +211,7 @@ module _ (r : Progress) (c : Conf) (ps : List Peer) (s : Sound c ps) (h : (x : �
         ap (λ (p : Places). p .learner) q,
         ap (λ (p : Places). p .staged) q,
       )
-      (leave-places st (apart y st q))
+      (leave-places st)
 
   leave-rec : (y : ℕ) (st : Standing) → spot c ps y ≡ placesOf st → recordOf y ps′ ≡ leaveRecord st (recordOf y ps)
   leave-rec y st q =
@@ -231,7 +223,7 @@ module _ (r : Progress) (c : Conf) (ps : List Peer) (s : Sound c ps) (h : (x : �
         ap (λ (p : Places). p .learner) q,
         ap (λ (p : Places). p .staged) q,
       )
-      (leave-record st (recordOf y ps) (apart y st q))
+      (leave-record st (recordOf y ps))
 
   pub leave-box : (y : ℕ) → boxAt (leaving c) ps′ y ≡ leaveBox (boxAt c ps y)
   leave-box y =
@@ -300,19 +292,19 @@ module _ (s : State) (o : Checked s) (r : Progress) where
   pub leave-stepped : (c : Conf) (log : List Entry) → leaveOf s ≡ accepted c log → Stepped s r leaveStep c log
   leave-stepped c log h =
       let m : Leave s c log = leave-means s c log h in
-      stepped-at s r leaveStep (m .conf) (m .logs) (from (m .jointly) (m .again) (passes-of (pendingTracked (ids (s .peers)) (removals (gone (s .conf)))) (leaving (s .conf)) (m .again) .learner-not-incoming))
+      stepped-at s r leaveStep (m .conf) (m .logs) (from (m .jointly) (m .again))
     where
       outs : length (s .conf .outgoing) ≤ length (ids (s .peers))
       outs = length-part (s .conf .outgoing) (ids (s .peers)) (o .sound .outgoing↑) (o .sound .ids↑) (passes-of (isTracked s) (s .conf) (o .checked) .outgoing-tracked)
 
-      from : joint (s .conf) ≡ true → check (pendingTracked (ids (s .peers)) (removals (gone (s .conf)))) (leaving (s .conf)) ≡ ok → ((x : ℕ) → memb x (leaving (s .conf) .learners) ≡ true → memb x (s .conf .incoming) ≡ false) → Stepped s r leaveStep (leaving (s .conf)) (removals (gone (s .conf)))
-      from j k m =
+      from : joint (s .conf) ≡ true → check (pendingTracked (ids (s .peers)) (removals (gone (s .conf)))) (leaving (s .conf)) ≡ ok → Stepped s r leaveStep (leaving (s .conf)) (removals (gone (s .conf)))
+      from j k =
           record {
-            sound = leave-sound r (s .conf) (s .peers) (o .sound) m;
+            sound = leave-sound r (s .conf) (s .peers) (o .sound);
             fits = room-removals (gone (s .conf)) (ids (s .peers));
             few = omega (arith, few-removals (gone (s .conf)) (ids (s .peers)), o .few);
             short = omega (arith, length-removals (gone (s .conf)), length-minus (minus (s .conf .outgoing) (s .conf .incoming)) (leaving (s .conf) .learners), length-minus (s .conf .outgoing) (s .conf .incoming), outs, o .few);
             checked = k;
-            boxes = leave-box r (s .conf) (s .peers) (o .sound) m;
+            boxes = leave-box r (s .conf) (s .peers) (o .sound);
             voters = λ f e. absurd (true≢false (sym j ∙ ap joint (f e)));
           }

@@ -7,7 +7,7 @@ use lib.Dec.{eqb}
 use Rattle.progress.specs.declared.Progress.{Progress}
 use Rattle.rules.specs.Ids.{ascending, insertId, memb, removeId}
 use Rattle.rules.specs.State.{Change, Kind, Peer, addLearner, addNode, ids, removeNode}
-use Rattle.rules.specs.Table.{Effect, I, IO, IOS, L, O, OS, Places, Standing, idle, none, place, placesIn, placesOf, put, table}
+use Rattle.rules.specs.Table.{Effect, I, IO, L, O, OS, Places, Standing, idle, none, place, placesIn, placesOf, put, table}
 use Rattle.rules.specs.Changes.{Work, change, done, logged, pendingTracked}
 use Rattle.rules.specs.Rust.{byKind, work}
 use Rattle.rules.proofs.Sets.{ascending-ext, ascending-insert, ascending-remove, insert-same, memb-insert, memb-remove, remove-none}
@@ -54,9 +54,6 @@ module _ (x : ℕ) (t : Bool) (w : Work) (i : ascending (w .conf .incoming) ≡ 
   table-agrees OS addNode q = rw (ap (λ (p : Places). p .tracked) q, append-nil)
   table-agrees OS addLearner q = rw (ap (λ (p : Places). p .tracked) q, ap (λ (p : Places). p .learner) q, ap (λ (p : Places). p .outgoing) q, append-nil, insert-remove x (w .conf .staged) g)
   table-agrees OS removeNode q = rw (ap (λ (p : Places). p .tracked) q, ap (λ (p : Places). p .outgoing) q, append-nil)
-  table-agrees IOS addNode q = rw (ap (λ (p : Places). p .tracked) q, append-nil)
-  table-agrees IOS addLearner q = rw (ap (λ (p : Places). p .tracked) q, ap (λ (p : Places). p .learner) q, ap (λ (p : Places). p .outgoing) q, append-nil, insert-remove x (w .conf .staged) g)
-  table-agrees IOS removeNode q = rw (ap (λ (p : Places). p .tracked) q, ap (λ (p : Places). p .outgoing) q, append-nil)
 
 -- what a change that is not skipped and not refused leaves is what the Rust's operation of its kind leaves
 pub change-agrees : (r : Progress) (ps : List Peer) (up : ascending (ids ps) ≡ true) (c : Change) (w v : Work) → Fine r ps up w → eqb (c .id) 0 ≡ false

@@ -7,13 +7,13 @@ use native.Mathlib.Omega.{arith}
 use lib.Dec.{eqb}
 use lib.ListN.{length}
 use Rattle.progress.specs.declared.Progress.{Progress}
-use Rattle.rules.specs.Ids.{memb, ascending}
-use Rattle.rules.specs.State.{Conf, Peer, State, ids, members, formed, fresh, Change, Entry}
+use Rattle.rules.specs.Ids.{memb, ascending, isEmpty}
+use Rattle.rules.specs.State.{Conf, Peer, State, ids, members, formed, fresh, noConf, Change, Entry}
 use Rattle.rules.specs.Answers.{ok, fault, accepted, refuse, _▸_}
-use Rattle.rules.specs.Check.{check, isTracked, inOrder}
+use Rattle.rules.specs.Check.{check, isTracked, inOrder, joint}
 use Rattle.rules.specs.Table.{placesOf, placesIn}
 use Rattle.rules.specs.Changes.{pendingTracked, Work, done, change}
-use Rattle.rules.specs.Calls.{listOf, readable, simpleOf, simple, enterOf, enterJoint, leaveOf, leaveJoint}
+use Rattle.rules.specs.Calls.{listOf, readable, simpleOf, simple, enterOf, enterJoint, gone, leaveOf, leaveJoint, leaving, removals}
 use Rattle.rules.specs.Idle.{enterIdles, enterWorks, simpleIdles, simpleWorks}
 use Rattle.rules.specs.Apply.{applyConf}
 use Rattle.rules.specs.Restore.{Step, simpleStep, enterStep, leaveStep, ask}
@@ -26,13 +26,15 @@ use Rattle.rules.proofs.Boxes.{boxAt}
 use Rattle.rules.proofs.Changes.{now, Fine, After, change-done, tracked-now}
 use Rattle.rules.proofs.Check.{then-left, then-right, refuse-ok}
 use Rattle.rules.proofs.Means.{given-ok, given-then}
-use Rattle.rules.proofs.Order.{stepShort}
+use Rattle.rules.proofs.Steps.{Ordered}
+use Rattle.rules.proofs.Order.{formed-of, ordered-of, stepShort}
+use Rattle.rules.proofs.Accept.{leave-accepted}
 use Rattle.rules.proofs.Applied.{any-applied}
 use Rattle.rules.proofs.Idle.{enter-counts, simple-counts}
 use Rattle.rules.proofs.Demand3.{demand-3, read-short, others-alter-nothing}
 use Rattle.rules.proofs.Table.{change-agrees}
 use Rattle.rules.proofs.Thirteen.{check-never-13, call-never-13}
-use Rattle.rules.proofs.RoundTrip.{round-trip}
+use Rattle.rules.proofs.RoundTrip.{empty-trip, fresh-in-order, order-trip, round-trip}
 use borrow.Author.Tests.{not-false}
 
 -- ** Number 13 is never given
@@ -114,6 +116,27 @@ order-is-kept s h c = demand-3 s h (c ∷ []) .ordered
 pub tracked-are-the-members : (s : State) → inOrder s ≡ true → (c : Call) (x : ℕ) → isTracked (perform s c .state) x ≡ memb x (members (perform s c .state .conf))
 unfolding afterCalls
 tracked-are-the-members s h c = demand-3 s h (c ∷ []) .tracked
+
+-- ** In order: document 02, h)
+
+-- "from every joint state in order, leaving is accepted": staged ids join learners, and who was outgoing only is removed
+pub joint-can-be-left : (s : State) → inOrder s ≡ true → joint (s .conf) ≡ true → leaveJoint s ≡ accepted (leaving (s .conf)) (removals (gone (s .conf)))
+unfolding leaveJoint
+joint-can-be-left s h j =
+    let o : Ordered s = ordered-of s h in
+    rw (formed-of s o) (leave-accepted s o j)
+
+-- "every state in order with an incoming voter, written out and restored to fresh, gives its configuration back"
+pub order-comes-back : (s : State) → inOrder s ≡ true → isEmpty (s .conf .incoming) ≡ false → (l n : ℕ) → ComesBack s l n
+order-comes-back = order-trip
+
+-- "So does the empty configuration."
+pub empty-comes-back : (s : State) → inOrder s ≡ true → s .conf ≡ noConf → (l n : ℕ) → ComesBack s l n
+empty-comes-back = empty-trip
+
+-- "No change list makes such a state from fresh", nor do any calls
+pub fresh-leads-to-order : (m : ℕ) (cs : List Call) → inOrder (afterCalls (fresh m) cs) ≡ true
+fresh-leads-to-order m cs = demand-3 (fresh m) (fresh-in-order m) cs .ordered
 
 -- ** The demands
 

@@ -8,7 +8,7 @@ use Rattle.progress.specs.Record.{freshRecord}
 use Rattle.progress.specs.declared.Progress.{Progress}
 use Rattle.rules.specs.State.{Change, Kind, Peer, State}
 use Rattle.rules.specs.Check.{isTracked}
-use Rattle.rules.specs.Table.{Effect, I, IO, IOS, L, O, OS, Standing, adds, idle, none, placesIn, removes, standingIn, stays, table}
+use Rattle.rules.specs.Table.{Effect, I, IO, L, O, OS, Standing, adds, idle, none, placesIn, removes, standingIn, stays, table}
 use Rattle.rules.specs.Restore.{Step, enterStep, leaveStep, simpleStep}
 use Rattle.rules.specs.Sequences.{Deed}
 
@@ -53,12 +53,11 @@ enterStanding L = L
 enterStanding O = O
 enterStanding IO = IO
 enterStanding OS = OS
-enterStanding IOS = IOS
 
 abbrev pub enterBox : Box → Box
 enterBox b = record { standing = enterStanding (b .standing); held = b .held }
 
--- leaving: who is only outgoing goes, a staged box becomes a learner. IOS does not meet it, since leaving is then refused.
+-- leaving: who is only outgoing goes, a staged box becomes a learner
 abbrev pub leaveStanding : Standing → Standing
 leaveStanding none = none
 leaveStanding idle = idle
@@ -67,7 +66,6 @@ leaveStanding L = L
 leaveStanding O = none
 leaveStanding IO = I
 leaveStanding OS = L
-leaveStanding IOS = IOS
 
 -- a box that was only outgoing is tracked no longer
 abbrev pub leaveRecord : Standing → Found → Found
@@ -78,7 +76,6 @@ leaveRecord L f = f
 leaveRecord O f = absent
 leaveRecord IO f = f
 leaveRecord OS f = f
-leaveRecord IOS f = f
 
 abbrev pub leaveBox : Box → Box
 leaveBox b = record { standing = leaveStanding (b .standing); held = leaveRecord (b .standing) (b .held) }

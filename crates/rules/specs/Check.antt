@@ -1,7 +1,7 @@
 -- The check, and in order: document 01, under the table of refusal numbers and in "The state and its numbers". Assumes nothing.
 use Prim.Native.Nat.{ℕ}
 use mathlib.Core.Bool.{Bool, _&&_, not}
-use Rattle.rules.specs.Ids.{insertAll, isEmpty, memb, sameIds}
+use Rattle.rules.specs.Ids.{apart, insertAll, isEmpty, memb, sameIds}
 use Rattle.rules.specs.State.{Conf, State, formed, ids, members}
 use Rattle.rules.specs.Answers.{Verdict, _▸_, each, passes, refuse}
 
@@ -27,10 +27,12 @@ unfoldable pub checkState : State → Verdict
 checkState s = refuse (not (formed s)) 1 0 ▸ check (isTracked s) (s .conf)
 
 -- "In order (an added yes or no): well formed, passes the check below, no id 0 anywhere, and tracked ids exactly those in at least
--- one of the four sets."
+-- one of the four sets." It "shall also ask that no staged id is an incoming voter; the ported check stays as the Rust has it" (document
+-- 02, h).
 unfoldable pub inOrder : State → Bool
 inOrder s =
     formed s
     && passes (check (isTracked s) (s .conf))
     && (not (memb 0 (ids (s .peers))) && not (memb 0 (members (s .conf))))
     && sameIds (ids (s .peers)) (members (s .conf))
+    && apart (s .conf .staged) (s .conf .incoming)

@@ -3,7 +3,7 @@ use Prim.Native.Nat.{ℕ, zero, suc}
 use mathlib.Core.Path.{_≡_, refl}
 use mathlib.Core.Bool.{true, false}
 use mathlib.Core.List.{List, [], _∷_, _++_}
-use Rattle.rules.specs.Ids.{memb, above, ascending, insertId, insertAll, removeId, sameIds}
+use Rattle.rules.specs.Ids.{apart, memb, above, ascending, insertId, insertAll, removeId, sameIds}
 use Rattle.rules.specs.State.{Conf, State, ids, confFormed, formed, noConf, Entry, add, remove, logFormed}
 use Rattle.rules.specs.Answers.{Verdict, ok, fault, Outcome, each}
 use Rattle.rules.specs.Check.{check, checkState, inOrder}
@@ -40,11 +40,11 @@ each-fault = refl
 
 -- ** In order
 
--- example 14's state is; an idle box, an untracked member, an id 0 and a fault each take it away
-pub in-order-or-not : (inOrder s0 ≡ true) × (inOrder s1 ≡ true) × (inOrder s14 ≡ true) × (inOrder (of (olds (1 ∷ 2 ∷ [])) (s1 .conf)) ≡ false) × (inOrder (of [] (s1 .conf)) ≡ false)
+-- an idle box, an untracked member, an id 0 and a fault each take it away
+pub in-order-or-not : (inOrder s0 ≡ true) × (inOrder s1 ≡ true) × (inOrder (of (olds (1 ∷ 2 ∷ [])) (s1 .conf)) ≡ false) × (inOrder (of [] (s1 .conf)) ≡ false)
     × (inOrder (of (olds (0 ∷ [])) (conf (0 ∷ []) [] [] [])) ≡ false) × (inOrder s17 ≡ false) × (inOrder m1 ≡ false)
-unfolding inOrder check each formed confFormed memb above ascending insertId insertAll sameIds ids
-in-order-or-not = (refl, refl, refl, refl, refl, refl, refl, refl)
+unfolding inOrder check each formed confFormed memb above ascending apart insertId insertAll sameIds ids
+in-order-or-not = (refl, refl, refl, refl, refl, refl, refl)
 
 -- ** apply_conf and to_conf_state
 

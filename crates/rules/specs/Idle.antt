@@ -7,7 +7,7 @@ use lib.Dec.{eqb}
 use lib.ListN.{length}
 use Rattle.rules.specs.State.{Change, Kind, State, ids}
 use Rattle.rules.specs.Answers.{Answer, accepted, refused}
-use Rattle.rules.specs.Table.{Effect, I, IO, IOS, L, O, OS, Standing, adds, idle, none, removes, stays, table}
+use Rattle.rules.specs.Table.{Effect, I, IO, L, O, OS, Standing, adds, idle, none, removes, stays, table}
 use Rattle.rules.specs.Changes.{Done, Work, change, done, full, standingNow}
 use Rattle.rules.specs.Calls.{enterJoint, entering, listOf, simple, start}
 
@@ -21,7 +21,6 @@ rowNumber L = 3
 rowNumber O = 4
 rowNumber IO = 5
 rowNumber OS = 6
-rowNumber IOS = 7
 
 abbrev pub sameStanding : Standing → Standing → Bool
 sameStanding a b = eqb (rowNumber a) (rowNumber b)

@@ -6,9 +6,9 @@ use Rattle.rules.specs.Ids.{insertId, memb, removeId}
 use Rattle.rules.specs.State.{Conf, Kind, addLearner, addNode, removeNode}
 
 -- "An id's standing: none (untracked), idle (tracked only), I, L, O, IO, OS for incoming, learner, outgoing, both voters, outgoing
--- and staged. Example 14's id 2 is IOS; no change meets one, since 4 and 6 come first."
+-- and staged. Example 14's id 2 is IOS; no change meets one, since 4 and 6 come first." Nor is a state with one in order (document 02, h).
 pub data Standing : Type 0 where
-  none idle I L O IO OS IOS : Standing
+  none idle I L O IO OS : Standing
 
 -- what is logged
 pub data Effect : Type 0 where
@@ -19,7 +19,7 @@ row a l r addNode = a
 row a l r addLearner = l
 row a l r removeNode = r
 
--- "After the check, these rules stand as a table". The last row is none of the paper's: it is what the sets' operations would do.
+-- "After the check, these rules stand as a table"
 unfoldable pub table : Standing → Kind → Standing × Effect
 --                 AddNode       AddLearnerNode  RemoveNode
 table none = row (I, adds) (L, adds) (none, stays)
@@ -29,7 +29,6 @@ table L = row (I, stays) (L, stays) (none, removes)
 table O = row (IO, stays) (OS, stays) (O, stays)
 table IO = row (IO, stays) (OS, stays) (O, stays)
 table OS = row (IO, stays) (OS, stays) (O, stays)
-table IOS = row (IO, stays) (OS, stays) (O, stays)
 
 -- where an id is: tracked, and in which sets
 pub record Places : Type 0 where
@@ -51,13 +50,13 @@ placesOf L = places true false false true false
 placesOf O = places true false true false false
 placesOf IO = places true true true false false
 placesOf OS = places true false true false true
-placesOf IOS = places true true true false true
 
--- the standing of an id that is there; where the check passed, it tells the places again (`stands-of`)
+-- the standing of an id that is there; where the check passed and no staged id is an incoming voter, it tells the places again
+-- (`stands-of`)
 unfoldable pub standingIn : Places → Standing
 standingIn p =
     cond (not (p .tracked)) none
-    (cond (p .outgoing) (cond (p .incoming) (cond (p .staged) IOS IO) (cond (p .staged) OS O))
+    (cond (p .outgoing) (cond (p .incoming) IO (cond (p .staged) OS O))
     (cond (p .incoming) I (cond (p .learner) L idle)))
 
 -- where x is in a configuration, t telling whether it is tracked

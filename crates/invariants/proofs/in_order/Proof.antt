@@ -1,6 +1,6 @@
 -- `invariants::in_order` meets its contract, one law for each answer. Assumes nothing.
 use borrow.Author.Needs.{needs}
-use Rattle.invariants.proofs.Order.{order-fault, order-zero, order-members}
+use Rattle.invariants.proofs.Order.{order-fault, order-zero, order-strangers, order-apart}
 use Rattle.invariants.proofs.in_order.Statement.{statement}
 use Rattle.invariants.proofs.in_order.Tie as tie
 
@@ -20,9 +20,15 @@ are-members-requires : tie.Need-are-members-requires
 are-members-requires c κs = search needs
 
 returns-3 : tie.Need-returns-3
-returns-3 c = search (needs, order-members)
+returns-3 c = search (needs, order-strangers)
+
+are-apart-requires : tie.Need-are-apart-requires
+are-apart-requires c κs = search needs
+
+returns-4 : tie.Need-returns-4
+returns-4 c = search (needs, order-apart)
 
 pub in-order-spec : {M : Type 1} → statement M
 in-order-spec =
     tie.close
-    (tie.spec check-requires returns contains-requires returns-2 are-members-requires returns-3)
+    (tie.spec check-requires returns contains-requires returns-2 are-members-requires returns-3 are-apart-requires returns-4)
