@@ -17,32 +17,27 @@ fn some_request(random: &mut Random, make: generate::MakeState, request: &mut Re
     generate::arguments(random, call, &ids, request);
 }
 
-pub fn in_order(comparison: &mut Comparison, random: &mut Random, size: Size) -> Compared {
+/// So many random calls, each on a random state of one generator.
+fn many(comparison: &mut Comparison, random: &mut Random, calls: usize, make: generate::MakeState) -> Compared {
     let mut request = Request::new(0);
-    for _ in 0..size.pick(3_000, 80_000, 2_000_000) {
-        some_request(random, generate::in_order, &mut request);
+    for _ in 0..calls {
+        some_request(random, make, &mut request);
         comparison.call(&request)?;
     }
     Ok(())
+}
+
+pub fn in_order(comparison: &mut Comparison, random: &mut Random, size: Size) -> Compared {
+    many(comparison, random, size.pick(3_000, 80_000, 2_000_000), generate::in_order)
 }
 
 /// States that are in order but for ids of two roles: the check passes, in order says no, and leaving is refused.
 pub fn two_roles(comparison: &mut Comparison, random: &mut Random, size: Size) -> Compared {
-    let mut request = Request::new(0);
-    for _ in 0..size.pick(1_000, 20_000, 500_000) {
-        some_request(random, generate::two_roles, &mut request);
-        comparison.call(&request)?;
-    }
-    Ok(())
+    many(comparison, random, size.pick(1_000, 20_000, 500_000), generate::two_roles)
 }
 
 pub fn faulty(comparison: &mut Comparison, random: &mut Random, size: Size) -> Compared {
-    let mut request = Request::new(0);
-    for _ in 0..size.pick(3_000, 80_000, 2_000_000) {
-        some_request(random, generate::formed, &mut request);
-        comparison.call(&request)?;
-    }
-    Ok(())
+    many(comparison, random, size.pick(3_000, 80_000, 2_000_000), generate::formed)
 }
 
 /// Damage in one place or in several, so that 1, 2 and 3 meet each other and the refusals after them.
