@@ -9,7 +9,7 @@ use crate::model::{read_log, write_log};
 use crate::model::{Accepted, Answer, Change, Conf, ConfState, Kind, Model, Refusal, State};
 use crate::oracle::{self, Rust};
 use crate::words::{self, Reply, Request, LONGEST_LIST};
-use raft::{Changer, Configuration, MapChange};
+use raft::{Changer, Configuration, MapChange, ProgressTracker};
 
 /// The arguments that a call reads beside the state.
 #[derive(Clone, Copy, PartialEq, Eq)]
@@ -37,9 +37,10 @@ pub const LEAVE_JOINT: u64 = 4;
 pub const APPLY_CONF: u64 = 5;
 pub const TO_CONF_STATE: u64 = 6;
 pub const RESTORE: u64 = 7;
+pub const RESTORE_STEP_BY_STEP: u64 = 8;
 
 #[rustfmt::skip]
-pub const CALLS: [Call; 8] = [
+pub const CALLS: [Call; 9] = [
     Call { number: CHECK, name: "check", takes: Takes::Nothing, paper: paper_check, rust: rust_check },
     Call { number: IN_ORDER, name: "in order", takes: Takes::Nothing, paper: paper_in_order, rust: rust_in_order },
     Call { number: SIMPLE, name: "simple", takes: Takes::List, paper: paper_simple, rust: rust_simple },
@@ -48,6 +49,7 @@ pub const CALLS: [Call; 8] = [
     Call { number: APPLY_CONF, name: "apply_conf", takes: Takes::ConfLogAndNext, paper: paper_apply_conf, rust: rust_apply_conf },
     Call { number: TO_CONF_STATE, name: "to_conf_state", takes: Takes::Nothing, paper: paper_to_conf_state, rust: rust_to_conf_state },
     Call { number: RESTORE, name: "restore", takes: Takes::ConfStateAndNext, paper: paper_restore, rust: rust_restore },
+    Call { number: RESTORE_STEP_BY_STEP, name: "restore_step_by_step", takes: Takes::ConfStateAndNext, paper: paper_step_by_step, rust: rust_step_by_step },
 ];
 
 pub fn numbered(number: u64) -> Option<&'static Call> {
@@ -144,7 +146,7 @@ fn rust_leave_joint(rust: &mut Rust, request: &Request, reply: &mut Reply) {
     rust_answer(answer, reply);
 }
 
-// ** apply_conf, to_conf_state, restore
+// ** apply_conf, to_conf_state
 
 fn paper_apply_conf(model: &Model, request: &Request, reply: &mut Reply) {
     let parts = (State::read(&request.state), Conf::read(&request.conf), read_log(&request.log));
@@ -174,23 +176,53 @@ fn rust_to_conf_state(rust: &mut Rust, request: &Request, reply: &mut Reply) {
     oracle::write_conf_state(lists, &mut reply.conf_state);
 }
 
+// ** restore, whole and step by step
+
+/// A restore of the model, under either name.
+type Restore = fn(&Model, &mut State, u64, &ConfState) -> Result<(), Refusal>;
+
 fn paper_restore(model: &Model, request: &Request, reply: &mut Reply) {
+    paper_restored(model, Model::restore, request, reply);
+}
+
+fn paper_step_by_step(model: &Model, request: &Request, reply: &mut Reply) {
+    paper_restored(model, Model::restore_step_by_step, request, reply);
+}
+
+/// "1, 2 first."
+fn paper_restored(model: &Model, restore: Restore, request: &Request, reply: &mut Reply) {
     let lists = ConfState::read(&request.conf_state).ok_or(UNREADABLE);
     match formed(request).and_then(|state| Ok((state, lists?))) {
         Err(refusal) => settle(Err(refusal), reply),
         Ok((mut state, lists)) => {
-            let result = model.restore(&mut state, request.next_idx, &lists);
+            let result = restore(model, &mut state, request.next_idx, &lists);
             state.write(&mut reply.state);
             settle(result, reply);
         }
     }
 }
 
+/// The Rust restores a clone. Where it refuses, the clone is dropped: number and id are the Rust's, and the reply gives the state back.
 fn rust_restore(rust: &mut Rust, request: &Request, reply: &mut Reply) {
+    let (restored, result) = rust_restored(rust, request);
+    if result.is_ok() {
+        oracle::write_tracker(&restored, &mut reply.state);
+    }
+    settle(result, reply);
+}
+
+/// The Rust's own `restore`, as it is: the steps before a refused one stay.
+fn rust_step_by_step(rust: &mut Rust, request: &Request, reply: &mut Reply) {
+    let (restored, result) = rust_restored(rust, request);
+    oracle::write_tracker(&restored, &mut reply.state);
+    settle(result, reply);
+}
+
+/// A clone of the tracker as the Rust's `restore` leaves it, and what it says.
+fn rust_restored(rust: &mut Rust, request: &Request) -> (ProgressTracker, Result<(), Refusal>) {
     let mut tracker = rust.tracker(&request.state).clone();
     let result = raft::restore(&mut tracker, request.next_idx, &oracle::conf_state(&request.conf_state));
-    oracle::write_tracker(&tracker, &mut reply.state);
-    settle(refusal(result), reply);
+    (tracker, refusal(result))
 }
 
 // ** 1, 2, 3, and how an answer becomes a reply

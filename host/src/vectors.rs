@@ -7,6 +7,7 @@ mod format;
 mod pieces;
 mod sample;
 
+use crate::calls::CALLS;
 use crate::compare::Comparison;
 use crate::model::Model;
 use crate::oracle::rust_listing;
@@ -69,6 +70,7 @@ fn call_case(request: &Request, tail: usize) -> Case {
 
 /// What the entry returns with 1 to 4.
 fn entry_cases() -> Vec<Case> {
+    let unknown = CALLS.len() as u64;
     let refused = |call, auto_leave, request_len: usize, reply_len, value| {
         let mut request = Request::new(call);
         request.auto_leave = auto_leave;
@@ -78,10 +80,10 @@ fn entry_cases() -> Vec<Case> {
     vec![
         refused(0, 0, REQUEST_BYTES - 1, REPLY_BYTES, 1),
         refused(0, 0, 0, 0, 1),
-        refused(9, 2, REQUEST_BYTES, REPLY_BYTES - 1, 2),
-        refused(8, 2, REQUEST_BYTES, REPLY_BYTES, 3),
+        refused(unknown, 2, REQUEST_BYTES, REPLY_BYTES - 1, 2),
+        refused(unknown, 2, REQUEST_BYTES, REPLY_BYTES, 3),
         refused(0, 2, REQUEST_BYTES, REPLY_BYTES, 4),
-        refused(7, 2, REQUEST_BYTES, REPLY_BYTES, 4),
+        refused(unknown - 1, 2, REQUEST_BYTES, REPLY_BYTES, 4),
     ]
 }
 

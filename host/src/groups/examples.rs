@@ -1,8 +1,9 @@
 //! Document 01, "Checked examples": each is run through the subject, the Rust and the model, and its answer is held against the paper's
-//! own words. Example 14 is also asked whether it is in order, which document 02, h) decides.
+//! own words. Those that restore are asked under both names: example 12 asks "by name for step-by-step restore", as document 02, g) says, and
+//! by `restore` its lists leave the state fresh. Example 14 is also asked whether it is in order, which document 02, h) decides.
 
 use super::Size;
-use crate::calls::{APPLY_CONF, CHECK, ENTER_JOINT, IN_ORDER, LEAVE_JOINT, RESTORE, SIMPLE};
+use crate::calls::{APPLY_CONF, CHECK, ENTER_JOINT, IN_ORDER, LEAVE_JOINT, RESTORE, RESTORE_STEP_BY_STEP, SIMPLE};
 use crate::compare::{Against, Compared, Comparison, Difference, Failure, Input};
 use crate::random::Random;
 use crate::show;
@@ -15,11 +16,14 @@ enum Do {
     Simple(Vec<Change>),
     Enter(Vec<Change>),
     Leave,
-    /// voters, learners, voters_outgoing, learners_next
-    Restore([&'static [u64]; 4]),
+    Restore(Lists),
+    StepByStep(Lists),
 }
 
-use Do::{Check, Enter, InOrder, Leave, Restore, Simple};
+use Do::{Check, Enter, InOrder, Leave, Restore, Simple, StepByStep};
+
+/// voters, learners, voters_outgoing, learners_next
+type Lists = [&'static [u64]; 4];
 
 pub fn add(id: u64) -> Change {
     (id, ADD_NODE)
@@ -51,6 +55,11 @@ fn with_learners(incoming: &[u64], learners: &[u64]) -> Start {
 type Example = (&'static str, Start, Vec<(Do, &'static str)>);
 
 fn all() -> Vec<Example> {
+    lists().into_iter().chain(restores()).collect()
+}
+
+/// Those without a restore.
+fn lists() -> Vec<Example> {
     let up_to_63: Vec<u64> = (1..=63).collect();
     let nearly_full = || with_learners(&up_to_63, &[64]);
     vec![
@@ -76,20 +85,6 @@ fn all() -> Vec<Example> {
             with_learners(&[1], &[2]),
             vec![(Simple(vec![remove(2), learner(2)]), "ok (1) learners (2) log (-2 +2), 2 fresh")],
         ),
-        (
-            "11",
-            fresh(),
-            vec![
-                (
-                    Restore([&[1, 2, 3], &[5], &[1, 2, 4, 6], &[4]]),
-                    "ok (1 2 3)&&(1 2 4 6) learners (5) staged (4) tracked (1 2 3 4 5 6)",
-                ),
-                (Leave, "ok (1 2 3) learners (4 5) log (-6)"),
-            ],
-        ),
-        ("12", fresh(), vec![(Restore([&[1, 2], &[1, 2], &[], &[]]), "17 id 0 (2) learners (1) tracked (1 2)")]),
-        ("13", fresh(), vec![(Restore([&[0, 1], &[], &[], &[]]), "17 id 0 () tracked ()")]),
-        ("13", fresh(), vec![(Restore([&[1, 0], &[], &[], &[]]), "ok (1) tracked (1)")]),
         ("14", [vec![1, 2], vec![1, 2], vec![], vec![2]], vec![(Check, "ok"), (InOrder, "no"), (Leave, "10 id 2")]),
         // document 02, h): the same state where 2 is staged and no incoming voter
         (
@@ -101,8 +96,39 @@ fn all() -> Vec<Example> {
         ("15, the other order", nearly_full(), vec![(Simple(vec![learner(65), remove(64)]), "16 id 65")]),
         ("15, a list of 256", voters(&[1]), vec![(Simple(vec![add(1); 256]), "ok (1) log ()")]),
         ("15, a list of 257", voters(&[1]), vec![(Simple(vec![add(1); 257]), "2 id 0")]),
+    ]
+}
+
+fn restores() -> Vec<Example> {
+    let of_12: Lists = [&[1, 2], &[1, 2], &[], &[]];
+    let mut examples = vec![
+        ("12", fresh(), vec![(StepByStep(of_12), "17 id 0 (2) learners (1) tracked (1 2)")]),
+        ("12, whole", fresh(), vec![(Restore(of_12), "17 id 0 () tracked ()")]),
+    ];
+    for restore in [Restore, StepByStep] {
+        examples.extend(either_way(restore));
+    }
+    examples
+}
+
+/// Accepted, or refused at the first step: both names give the same.
+fn either_way(restore: fn(Lists) -> Do) -> Vec<Example> {
+    vec![
+        (
+            "11",
+            fresh(),
+            vec![
+                (
+                    restore([&[1, 2, 3], &[5], &[1, 2, 4, 6], &[4]]),
+                    "ok (1 2 3)&&(1 2 4 6) learners (5) staged (4) tracked (1 2 3 4 5 6)",
+                ),
+                (Leave, "ok (1 2 3) learners (4 5) log (-6)"),
+            ],
+        ),
+        ("13", fresh(), vec![(restore([&[0, 1], &[], &[], &[]]), "17 id 0 () tracked ()")]),
+        ("13", fresh(), vec![(restore([&[1, 0], &[], &[], &[]]), "ok (1) tracked (1)")]),
         // "Four empty lists are accepted and change nothing."
-        ("restore, last sentence", voters(&[1]), vec![(Restore([&[], &[], &[], &[]]), "ok (1) tracked (1)")]),
+        ("restore, last sentence", voters(&[1]), vec![(restore([&[], &[], &[], &[]]), "ok (1) tracked (1)")]),
     ]
 }
 
@@ -149,12 +175,15 @@ fn ask(request: &mut Request, step: &Do) {
         Leave => request.call = LEAVE_JOINT,
         Simple(list) => (request.call, request.list) = (SIMPLE, List::of(list)),
         Enter(list) => (request.call, request.list) = (ENTER_JOINT, List::of(list)),
-        Restore(lists) => {
-            request.call = RESTORE;
-            for (to, from) in request.conf_state.lists_mut().into_iter().zip(lists) {
-                *to = Ids::of(from);
-            }
-        }
+        Restore(lists) => ask_restore(request, RESTORE, lists),
+        StepByStep(lists) => ask_restore(request, RESTORE_STEP_BY_STEP, lists),
+    }
+}
+
+fn ask_restore(request: &mut Request, call: u64, lists: &Lists) {
+    request.call = call;
+    for (to, from) in request.conf_state.lists_mut().into_iter().zip(lists) {
+        *to = Ids::of(from);
     }
 }
 
@@ -177,7 +206,7 @@ fn said(request: &Request, reply: &Reply) -> String {
     let conf = written(&reply.state.conf);
     match request.call {
         IN_ORDER => if reply.yes == 1 { "yes" } else { "no" }.to_string(),
-        RESTORE => format!("{verdict} {conf} tracked {}", ids(&reply.state.tracked)),
+        RESTORE | RESTORE_STEP_BY_STEP => format!("{verdict} {conf} tracked {}", ids(&reply.state.tracked)),
         SIMPLE | ENTER_JOINT | LEAVE_JOINT if reply.number == 0 => {
             let sign = |kind| if kind == REMOVE { '-' } else { '+' };
             let log: Vec<String> = reply.log.used().iter().map(|entry| format!("{}{}", sign(entry.kind), entry.id)).collect();

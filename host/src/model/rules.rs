@@ -403,7 +403,7 @@ impl Model {
         self.faults(&self.left(&state.conf), &|id| state.tracked.contains_key(&id) && !gone.contains(&id))
     }
 
-    // ** apply_conf, restore
+    // ** apply_conf, restore_step_by_step, restore
 
     /// "`apply_conf`: sets the configuration, then takes log entries in order. Add writes a fresh record over any old one; Remove of an
     /// absent id does nothing. No check is made. It gives .. 16 if an Add would need a 65th tracked id, and then nothing has changed."
@@ -432,7 +432,7 @@ impl Model {
         Ok(())
     }
 
-    /// One step of `restore`, applied.
+    /// One step of a restore, applied.
     fn step(&self, state: &mut State, next_idx: u64, answer: Answer) -> Result<(), Refusal> {
         let Accepted { conf, log, .. } = answer?;
         self.apply_conf(state, conf, &log, next_idx)
@@ -443,9 +443,9 @@ impl Model {
         self.step(state, next_idx, answer)
     }
 
-    /// "A refused step ends it; earlier steps stay and its number and id are returned."
-    pub fn restore(&self, state: &mut State, next_idx: u64, lists: &ConfState) -> Result<(), Refusal> {
-        let given = self.has(Wrong::RefusedRestoreUndone).then(|| state.clone());
+    /// "A refused step ends it; earlier steps stay and its number and id are returned." Document 02, g): it "stays as document 01 has it".
+    pub fn restore_step_by_step(&self, state: &mut State, next_idx: u64, lists: &ConfState) -> Result<(), Refusal> {
+        let given = self.has(Wrong::RefusedStepsUndone).then(|| state.clone());
         let result = if self.has(Wrong::RestoreListsAsSets) {
             self.restore_steps(state, next_idx, &as_sets(lists))
         } else {
@@ -481,6 +481,31 @@ impl Model {
         list.extend(wanted);
         let answer = self.enter_joint(state, lists.auto_leave, &list);
         self.step(state, next_idx, answer)
+    }
+
+    /// Document 02, g): "a refused `restore` .. returns the state it was given, with the same number and id."
+    pub fn restore(&self, state: &mut State, next_idx: u64, lists: &ConfState) -> Result<(), Refusal> {
+        let mut tried = state.clone();
+        match self.restore_step_by_step(&mut tried, next_idx, lists) {
+            Ok(()) => {
+                *state = tried;
+                Ok(())
+            }
+            Err(refusal) => Err(self.refused_restore(state, tried, refusal)),
+        }
+    }
+
+    /// The refusal, and the state given as it is: only wrong rules do something here.
+    fn refused_restore(&self, given: &mut State, tried: State, refusal: Refusal) -> Refusal {
+        if self.has(Wrong::RefusedRestoreKeepsSteps) {
+            *given = tried;
+        } else if self.has(Wrong::RefusedRestoreIsFresh) {
+            *given = State::fresh(given.max_inflight);
+        } else if self.has(Wrong::RefusedRestoreKeepsTracked) {
+            given.tracked = tried.tracked;
+        }
+        let id = if self.has(Wrong::RefusedRestoreDropsTheId) { 0 } else { refusal.id };
+        Refusal { id, ..refusal }
     }
 
     /// "`to_conf_state`: four ascending lists"

@@ -1,5 +1,5 @@
 //! Rules that are wrong on purpose. Document 01, "Errors a porter would make", and others of the kind, also for the count of document 02's
-//! b) and the part that its h) adds to in order. Each is one test in model/rules.rs or model/entries.rs.
+//! b), the two restores of its g) and the part that its h) adds to in order. Each is one test in model/rules.rs or model/entries.rs.
 
 /// One wrong rule; `sentence` says which.
 #[derive(Clone, Copy, Debug, PartialEq, Eq)]
@@ -16,7 +16,11 @@ pub enum Wrong {
     TrackedOfBaseOnly,
     LeaveKeepsTheFlag,
     ZeroIsABox,
-    RefusedRestoreUndone,
+    RefusedStepsUndone,
+    RefusedRestoreKeepsSteps,
+    RefusedRestoreIsFresh,
+    RefusedRestoreKeepsTracked,
+    RefusedRestoreDropsTheId,
     RemoveFreesOutgoing,
     RestoreFlagNotIgnored,
     EmptyListAccepted,
@@ -42,7 +46,7 @@ pub enum Wrong {
 use Wrong::*;
 
 impl Wrong {
-    pub const ALL: [Wrong; 33] = [
+    pub const ALL: [Wrong; 37] = [
         CountsChanges,
         TwelveAsTheTextSays,
         CancelsInTheLog,
@@ -55,7 +59,11 @@ impl Wrong {
         TrackedOfBaseOnly,
         LeaveKeepsTheFlag,
         ZeroIsABox,
-        RefusedRestoreUndone,
+        RefusedStepsUndone,
+        RefusedRestoreKeepsSteps,
+        RefusedRestoreIsFresh,
+        RefusedRestoreKeepsTracked,
+        RefusedRestoreDropsTheId,
         RemoveFreesOutgoing,
         RestoreFlagNotIgnored,
         EmptyListAccepted,
@@ -84,7 +92,7 @@ impl Wrong {
             TwelveAsTheTextSays => "12 as the Rust's text has it: a staged id that is an outgoing voter",
             CancelsInTheLog => "-2 +2 cancel in a log",
             DemotedAtOnce => "a demoted outgoing voter is a learner at once",
-            RestoreListsAsSets => "restore takes its lists as sets",
+            RestoreListsAsSets => "both restores take their lists as sets",
             AddKeepsTheOldRecord => "an Add keeps the old record",
             FreedRoomNotUsed => "room freed earlier in the list is not used",
             LeaveRemovesStaged => "leaving removes staged boxes",
@@ -92,9 +100,13 @@ impl Wrong {
             TrackedOfBaseOnly => "tracked is asked of the base ids without the pending log",
             LeaveKeepsTheFlag => "leaving keeps auto_leave",
             ZeroIsABox => "a change with id 0 is not skipped",
-            RefusedRestoreUndone => "a refused restore undoes its earlier steps",
+            RefusedStepsUndone => "a refused restore_step_by_step undoes its earlier steps",
+            RefusedRestoreKeepsSteps => "a refused restore keeps its earlier steps",
+            RefusedRestoreIsFresh => "a refused restore gives the fresh state instead of the one given",
+            RefusedRestoreKeepsTracked => "a refused restore gives back the configuration but not the tracked records",
+            RefusedRestoreDropsTheId => "a refused restore drops the id that its refusal names",
             RemoveFreesOutgoing => "removing an outgoing voter logs Remove",
-            RestoreFlagNotIgnored => "restore without outgoing voters does not ignore the flag",
+            RestoreFlagNotIgnored => "neither restore ignores the flag where there are no outgoing voters",
             EmptyListAccepted => "17 is not tested after an empty list",
             VotersSetBySet => "7 is looked for in incoming and then in outgoing",
             SeventeenBeforeSixteen => "17 before 16",
