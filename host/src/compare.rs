@@ -126,6 +126,11 @@ impl<'a> Comparison<'a> {
         (paper, Some(rust))
     }
 
+    /// The subject's reply to the last call that was compared.
+    pub fn answer(&self) -> &Reply {
+        &self.replies[2]
+    }
+
     /// How the entries of the accepted lists were judged.
     pub fn entries(&self) -> &Entries {
         &self.rust.entries

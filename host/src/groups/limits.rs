@@ -1,7 +1,7 @@
 //! Around each limit: lists of 256, 64 tracked ids, the least and the largest id.
 
 use super::Size;
-use crate::calls::{APPLY_CONF, CALLS, ENTER_JOINT, RESTORE, SIMPLE};
+use crate::calls::{APPLY_CONF, CALLS, ENTER_JOINT, RESTORE, RESTORE_STEP_BY_STEP, SIMPLE};
 use crate::compare::{Compared, Comparison};
 use crate::generate;
 use crate::random::Random;
@@ -45,7 +45,7 @@ pub fn full(comparison: &mut Comparison, random: &mut Random, size: Size) -> Com
         *request = Request::zero();
         let make = random.pick(&[generate::in_order, generate::in_order, generate::formed]);
         request.state = make(random, &ids[..tracked]);
-        request.call = random.pick(&[SIMPLE, ENTER_JOINT, ENTER_JOINT, APPLY_CONF, RESTORE]);
+        request.call = random.pick(&[SIMPLE, ENTER_JOINT, ENTER_JOINT, APPLY_CONF, RESTORE, RESTORE_STEP_BY_STEP]);
         request.auto_leave = random.flag();
         request.next_idx = random.number();
         let length = random.between(0, 14);
@@ -88,7 +88,7 @@ fn without_voters(random: &mut Random, tracked: &[u64], list: &[Change], request
 
 /// 60 to 70 ids in the four lists together, or 64 of one list and 65.
 fn long_conf_state(random: &mut Random, ids: &[u64], request: &mut Request) {
-    request.call = RESTORE;
+    request.call = random.pick(&[RESTORE, RESTORE_STEP_BY_STEP]);
     let ends = [random.between(1, 64), random.between(0, 30), random.between(0, 30)];
     let (voters, learners) = (&ids[..ends[0]], &ids[ends[0].min(ids.len())..(ends[0] + ends[1]).min(ids.len())]);
     request.conf_state.voters = Ids::of(voters);

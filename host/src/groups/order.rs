@@ -4,9 +4,10 @@
 //! Each call is compared first. So the answer that is then held against these sentences is the subject's as well as the paper's, and the
 //! Rust's wherever it has one.
 
+use super::restores::both_names;
 use super::states::each_state;
 use super::Size;
-use crate::calls::{IN_ORDER, LEAVE_JOINT, RESTORE, TO_CONF_STATE};
+use crate::calls::{IN_ORDER, LEAVE_JOINT, TO_CONF_STATE};
 use crate::compare::{Against, Compared, Comparison, Difference, Failure, Input};
 use crate::generate::{self, MakeState};
 use crate::model::{self, Model};
@@ -118,13 +119,14 @@ fn left(comparison: &mut Comparison, request: &mut Request, expected: (u64, u64)
     holds(request, given == expected, || format!("leaving gives number and id {given:?}, expected {expected:?}"))
 }
 
-/// Written out and restored to fresh. Without an incoming voter only the empty configuration comes back: any other is refused with 17.
+/// Written out and restored to fresh, under both names. Without an incoming voter only the empty configuration comes back: any other is
+/// refused with 17.
 fn restored(comparison: &mut Comparison, request: &mut Request) -> Compared {
     let State { conf, max_inflight, .. } = request.state;
-    let mut restore = Request::new(RESTORE);
+    let mut restore = Request::new(0);
     restore.conf_state = asked(comparison, TO_CONF_STATE, request)?.conf_state;
     (restore.state.max_inflight, restore.next_idx) = (max_inflight, NEXT_IDX);
-    let reply = asked(comparison, RESTORE, &mut restore)?;
+    let reply = both_names(comparison, &mut restore)?;
     let number = reply.number;
     if conf.incoming.count == 0 && conf != Conf::zero() {
         return holds(request, number == 17, || format!("written out and restored it gives number {number}, expected 17"));

@@ -1,7 +1,8 @@
 //! Random states, each with one random call.
 
+use super::restores::both_names;
 use super::Size;
-use crate::calls::{APPLY_CONF, CALLS, ENTER_JOINT, LEAVE_JOINT, RESTORE, SIMPLE, TO_CONF_STATE};
+use crate::calls::{APPLY_CONF, CALLS, ENTER_JOINT, LEAVE_JOINT, SIMPLE, TO_CONF_STATE};
 use crate::compare::{Compared, Comparison};
 use crate::generate;
 use crate::random::Random;
@@ -55,7 +56,7 @@ pub fn malformed(comparison: &mut Comparison, random: &mut Random, size: Size) -
 }
 
 /// Sequences of calls from fresh. Each accepted answer is applied; on the way every state is checked, written out and restored to
-/// fresh.
+/// fresh under both names.
 pub fn sequences(comparison: &mut Comparison, random: &mut Random, size: Size) -> Compared {
     for _ in 0..size.pick(40, 600, 20_000) {
         let count = random.pick(&[3, 5, 8, 16, 70]);
@@ -95,8 +96,8 @@ fn step(comparison: &mut Comparison, random: &mut Random, ids: &[u64], request: 
 fn written_and_restored(comparison: &mut Comparison, request: &mut Request) -> Compared {
     request.call = TO_CONF_STATE;
     let written = comparison.expected(request).0.conf_state;
-    let mut restore = Request::new(RESTORE);
+    let mut restore = Request::new(0);
     restore.state.max_inflight = request.state.max_inflight;
     restore.conf_state = written;
-    comparison.call(&restore)
+    both_names(comparison, &mut restore).map(|_| ())
 }
