@@ -12,9 +12,10 @@
 //! }
 //! ```
 //!
-//! The names are those of crate raft 0.7.0: what `Changer::new(&tracker).simple(..)` is there, `tracker.simple(..)` is here. Every function
-//! answers for every input; none panics, and a refusal leaves the tracker as it was. One exception is `restore`, whose accepted steps
-//! stay. A set or the tracked ids may hold at most 64 ids, a list of changes and a log 256 entries; longer ones are refused.
+//! The names are those of crate raft 0.7.0: what `Changer::new(&tracker).simple(..)` is there, `tracker.simple(..)` is here; but what
+//! `restore` does there, `restore_step_by_step` does here. Every function answers for every input; none panics, and a refusal leaves the
+//! tracker as it was. The one exception is `restore_step_by_step`, whose accepted steps stay. A set or the tracked ids may hold at most 64
+//! ids, a list of changes and a log 256 entries; longer ones are refused.
 
 #![allow(dead_code)]
 
@@ -196,13 +197,18 @@ impl Tracker {
         Ok(())
     }
 
-    /// Runs the changes that make the configuration of a `ConfState`, each applied with this `next_idx`. Where a step is refused the
-    /// earlier ones stay.
+    /// Runs the changes that make the configuration of a `ConfState`, each applied with this `next_idx`: all of them or none. Use this one
+    /// by default: a refused `restore` leaves the tracker as it was, so no half of a damaged `ConfState` is taken over.
     pub fn restore(&mut self, next_idx: u64, state: &ConfState) -> Result<(), Refused> {
-        let mut request = Request::of(RESTORE, self);
-        request.words[REQUEST_NEXT_IDX] = next_idx;
-        put_conf_state(&mut request.words[REQUEST_CONF_STATE..], state);
-        let (reply, refused) = request.run();
+        let reply = Request::restoring(RESTORE, self, next_idx, state).answer()?;
+        *self = reply.tracker();
+        Ok(())
+    }
+
+    /// Runs the same changes as `restore`, and is refused where that is, with the same number and id. But the changes before the refused one
+    /// stay, as they do in the Rust's own `restore`. Use this one for an import that wants to keep what was accepted before the refused step.
+    pub fn restore_step_by_step(&mut self, next_idx: u64, state: &ConfState) -> Result<(), Refused> {
+        let (reply, refused) = Request::restoring(RESTORE_STEP_BY_STEP, self, next_idx, state).run();
         if reply.words[REPLY_NUMBER] != MALFORMED {
             *self = reply.tracker();
         }
@@ -220,9 +226,9 @@ impl Tracker {
     }
 
     /// Whether the check passes, no id is 0, the tracked boxes are exactly those in at least one of the four sets, and no box of
-    /// `learners_next` is an incoming voter. Every tracker that comes from a new one by `restore`, and by answers applied to the tracker
-    /// that gave them, is. From a joint tracker in order `leave_joint` is accepted; and one in order with an incoming voter, written out and
-    /// restored to a new tracker, gives its configuration back.
+    /// `learners_next` is an incoming voter. Every tracker that comes from a new one by `restore`, by `restore_step_by_step` and by answers
+    /// applied to the tracker that gave them, is. From a joint tracker in order `leave_joint` is accepted; and one in order with an incoming
+    /// voter, written out and restored to a new tracker, gives its configuration back.
     pub fn in_order(&self) -> bool {
         let (reply, _) = Request::of(IN_ORDER, self).run();
         reply.words[REPLY_YES] == 1
@@ -247,6 +253,7 @@ const LEAVE_JOINT: u64 = 4;
 const APPLY_CONF: u64 = 5;
 const TO_CONF_STATE: u64 = 6;
 const RESTORE: u64 = 7;
+const RESTORE_STEP_BY_STEP: u64 = 8;
 
 const MALFORMED: u64 = 1;
 
@@ -296,6 +303,13 @@ impl Request {
         words[REQUEST_CALL] = call;
         put_tracker(&mut words[REQUEST_STATE..], tracker);
         Request { words }
+    }
+
+    fn restoring(call: u64, tracker: &Tracker, next_idx: u64, state: &ConfState) -> Request {
+        let mut request = Request::of(call, tracker);
+        request.words[REQUEST_NEXT_IDX] = next_idx;
+        put_conf_state(&mut request.words[REQUEST_CONF_STATE..], state);
+        request
     }
 
     /// Of a list that is too long as much as shows it.

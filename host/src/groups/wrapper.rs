@@ -14,7 +14,8 @@ use crate::words::{self, Block, Entry, Ids, Log, Record, Reply, Request};
 use std::collections::BTreeSet;
 
 /// The calls that dimecandle.rs has.
-const WRAPPED: [u64; 8] = [CHECK, IN_ORDER, SIMPLE, ENTER_JOINT, LEAVE_JOINT, APPLY_CONF, TO_CONF_STATE, RESTORE];
+const WRAPPED: [u64; 9] =
+    [CHECK, IN_ORDER, SIMPLE, ENTER_JOINT, LEAVE_JOINT, APPLY_CONF, TO_CONF_STATE, RESTORE, RESTORE_STEP_BY_STEP];
 
 pub fn wrapper(comparison: &mut Comparison, random: &mut Random, size: Size) -> Compared {
     beyond_the_limits(comparison)?;
@@ -86,13 +87,14 @@ fn through_the_wrapper(request: &Request) -> Reply {
             tracker.apply_conf(configuration(&request.conf), log, request.next_idx)
         }
         RESTORE => tracker.restore(request.next_idx, &conf_state(&request.conf_state)),
+        RESTORE_STEP_BY_STEP => tracker.restore_step_by_step(request.next_idx, &conf_state(&request.conf_state)),
         IN_ORDER => {
             reply.yes = u64::from(tracker.in_order());
             Ok(())
         }
         other => unreachable!("dimecandle.rs has no call {other}"),
     };
-    if matches!(request.call, APPLY_CONF | RESTORE) {
+    if matches!(request.call, APPLY_CONF | RESTORE | RESTORE_STEP_BY_STEP) {
         write_tracker(&tracker, &mut reply.state);
     }
     if let Err(Refused { number, id }) = refused {
@@ -206,7 +208,8 @@ fn write_lists(lists: &ConfState, words: &mut words::ConfState) {
 fn beyond_the_limits(comparison: &mut Comparison) -> Compared {
     let tracker = Tracker::new(3);
     let mut overfull = tracker.clone();
-    overfull.conf.learners = (1..=65).collect();
+    // not from 1 on: the word after the 64 ids is the count, and 65 would pass for the last id
+    overfull.conf.learners = (2..=66).collect();
     let mut crowded = tracker.clone();
     crowded.progress = (1..=70).map(|id| (id, Progress::default())).collect();
     let lists = |count| ConfState { voters: vec![1; count], ..ConfState::default() };
@@ -222,11 +225,31 @@ fn beyond_the_limits(comparison: &mut Comparison) -> Compared {
     expect(comparison, "70 tracked, in order", 0, if crowded.in_order() { Err(Refused { number: 1, id: 0 }) } else { Ok(()) })?;
     expect(comparison, "a log of 257", 1, tested.apply_conf(Configuration::default(), log, 1))?;
     expect(comparison, "a configuration with 65 learners", 1, tested.apply_conf(overfull.conf.clone(), vec![], 1))?;
-    expect(comparison, "65 voters to restore", 2, tested.restore(1, &lists(65)))?;
-    expect(comparison, "65 voters to restore to 65 learners", 1, overfull.clone().restore(1, &lists(65)))?;
-    let unchanged = if tested == tracker { Ok(()) } else { Err(Refused { number: 1, id: 0 }) };
-    expect(comparison, "the tracker after these", 0, unchanged)?;
-    expect(comparison, "64 times one voter to restore", 0, tested.restore(1, &lists(64)))
+    for (name, restore) in RESTORES {
+        expect(comparison, &format!("{name} of 65 voters"), 2, restore(&mut tested, 1, &lists(65)))?;
+        let mut kept = overfull.clone();
+        expect(comparison, &format!("{name} of 65 voters to 65 learners"), 1, restore(&mut kept, 1, &lists(65)))?;
+        expect(comparison, &format!("65 learners after {name}"), 0, same(&kept, &overfull))?;
+    }
+    expect(comparison, "the tracker after these", 0, same(&tested, &tracker))?;
+    for (name, restore) in RESTORES {
+        expect(comparison, &format!("{name} of 64 times one voter"), 0, restore(&mut tracker.clone(), 1, &lists(64)))?;
+    }
+    Ok(())
+}
+
+/// A restore of dimecandle.rs, under either name.
+type Restore = fn(&mut Tracker, u64, &ConfState) -> Result<(), Refused>;
+
+const RESTORES: [(&str, Restore); 2] = [("restore", Tracker::restore), ("restore_step_by_step", Tracker::restore_step_by_step)];
+
+/// Refused where the two differ.
+fn same(one: &Tracker, other: &Tracker) -> Result<(), Refused> {
+    if one == other {
+        Ok(())
+    } else {
+        Err(Refused { number: 1, id: 0 })
+    }
 }
 
 fn expect(comparison: &mut Comparison, what: &str, number: u64, given: Result<(), Refused>) -> Compared {
