@@ -26,7 +26,8 @@ enum {
     DIMECANDLE_LEAVE_JOINT = 4,
     DIMECANDLE_APPLY_CONF = 5,
     DIMECANDLE_TO_CONF_STATE = 6,
-    DIMECANDLE_RESTORE = 7
+    DIMECANDLE_RESTORE = 7,             /* whole: a refused one gives back the state given. Use this one by default */
+    DIMECANDLE_RESTORE_STEP_BY_STEP = 8 /* a refused one keeps the steps that were accepted, as the Rust's restore does */
 };
 
 /* list.kinds */
@@ -103,7 +104,7 @@ typedef struct dimecandle_request {
     uint64_t call;
     dimecandle_state state;
     uint64_t auto_leave; /* for enter_joint: 0 or 1 */
-    uint64_t next_idx;   /* for apply_conf and restore */
+    uint64_t next_idx;   /* for apply_conf and both restores */
     dimecandle_list list;
     dimecandle_conf conf;
     dimecandle_log log;
