@@ -24,7 +24,7 @@ use Rattle.tracker.specs.declared.Tracker.{Tracker}
 use Rattle.tracker.proofs.Bridge.{tracker-formed}
 use Rattle.changer.specs.Calls.{enterAnswer}
 use Rattle.changer.specs.declared.Answer.{Answer}
-use Rattle.restore.specs.Restore.{appliedTo, restoreOf, stepsOf, tooLong}
+use Rattle.restore.specs.Restore.{appliedTo, stepByStepOf, stepsOf, tooLong}
 use Rattle.restore.specs.Steps.{Listed, entered, idsIn, jointSteps, kindsIn}
 use Rattle.restore.specs.declared.Changes.{Changes}
 use Rattle.restore.proofs.Steps.{enter-step, steps-formed, steps-on, steps-stop}
@@ -157,7 +157,7 @@ module _ (t : Tracker) (w : trackerWellFormed t ≡ true) (cs : ConfState) (next
       q ∙ ap (λ (a : Answer). appliedTo t a next) e ∙ enter-step t w next (cs .«auto_leave») (idsIn c) (kindsIn c) (l .reads)
       ∙ ap (λ (ds : List Change). stepsOf t next (enterStep (cs .«auto_leave») ds ∷ [])) (l .says)
 
--- ** restore
+-- ** restore_step_by_step
 
 some-taken : (n : ℕ) (l : List ℕ) → (n ≡ 0 → ⊥) → length l ≡ 64 → isEmpty (take n l) ≡ false
 some-taken zero l h s = absurd (h refl)
@@ -169,33 +169,33 @@ fits l n = le-leb (length (entriesIn l)) 64 (omega (arith, length-take (l .len) 
 
 -- 1 and 2 are passed
 module _ (t : Tracker) (w : trackerWellFormed t ≡ true) (cs : ConfState) (f : tooLong cs ≡ false) (next : ℕ) where
-  passed : restorable (stateOf t) (listsOf cs) ≡ ok
+  pub passed : restorable (stateOf t) (listsOf cs) ≡ ok
   unfolding restorable
   passed =
       let s : Short cs = not-long cs f in
       rw (tracker-formed t w, fits (cs .voters) (s .voters), fits (cs .learners) (s .learners), fits (cs .«voters_outgoing») (s .outgoing), fits (cs .«learners_next») (s .staged))
 
-  steps : (ps : List Step) → restoreSteps (listsOf cs) ≡ ps → stepsOf t next ps ≡ restoreOf t cs next
-  unfolding restoreOf rules.restore
+  steps : (ps : List Step) → restoreSteps (listsOf cs) ≡ ps → stepsOf t next ps ≡ stepByStepOf t cs next
+  unfolding stepByStepOf rules.restoreStepByStep
   steps ps e = rw (w, f, passed, e)
 
   module _ {o : Outcome} where
-    pub restore-3 : cs .«voters_outgoing» .len ≡ 0 → o ≡ stepsOf t next (oneByOne (wanted (listsOf cs))) → o ≡ restoreOf t cs next
+    pub steps-3 : cs .«voters_outgoing» .len ≡ 0 → o ≡ stepsOf t next (oneByOne (wanted (listsOf cs))) → o ≡ stepByStepOf t cs next
     unfolding restoreSteps
-    restore-3 z q = q ∙ steps (oneByOne (wanted (listsOf cs))) (rw z)
+    steps-3 z q = q ∙ steps (oneByOne (wanted (listsOf cs))) (rw z)
 
-    pub restore-4 : (cs .«voters_outgoing» .len ≡ 0 → ⊥) → length (cs .«voters_outgoing» .ids) ≡ 64 → o ≡ stepsOf t next (jointSteps cs) → o ≡ restoreOf t cs next
+    pub steps-4 : (cs .«voters_outgoing» .len ≡ 0 → ⊥) → length (cs .«voters_outgoing» .ids) ≡ 64 → o ≡ stepsOf t next (jointSteps cs) → o ≡ stepByStepOf t cs next
     unfolding restoreSteps
-    restore-4 z s q = q ∙ steps (jointSteps cs) (rw (some-taken (cs .«voters_outgoing» .len) (cs .«voters_outgoing» .ids) z s))
+    steps-4 z s q = q ∙ steps (jointSteps cs) (rw (some-taken (cs .«voters_outgoing» .len) (cs .«voters_outgoing» .ids) z s))
 
 module _ (t : Tracker) (cs : ConfState) (next : ℕ) {o : Outcome} where
-  pub restore-1 : trackerWellFormed t ≡ false → o ≡ refusedOf t 1 0 → o ≡ restoreOf t cs next
-  unfolding restoreOf
-  restore-1 w q = q ∙ rw w
+  pub steps-1 : trackerWellFormed t ≡ false → o ≡ refusedOf t 1 0 → o ≡ stepByStepOf t cs next
+  unfolding stepByStepOf
+  steps-1 w q = q ∙ rw w
 
-  pub restore-2 : trackerWellFormed t ≡ true → tooLong cs ≡ true → o ≡ refusedOf t 2 0 → o ≡ restoreOf t cs next
-  unfolding restoreOf
-  restore-2 w f q = q ∙ rw (w, f)
+  pub steps-2 : trackerWellFormed t ≡ true → tooLong cs ≡ true → o ≡ refusedOf t 2 0 → o ≡ stepByStepOf t cs next
+  unfolding stepByStepOf
+  steps-2 w f q = q ∙ rw (w, f)
 
 -- what the test of the state tells
 pub well : (t : Tracker) {b : Bool} → b ≡ not (trackerWellFormed t) → b ≡ false → trackerWellFormed t ≡ true

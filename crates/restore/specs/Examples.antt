@@ -1,4 +1,4 @@
--- `restore` and `apply_answer` tried on small states. Above each line stands what it rules out: a program that would leave another state, or
+-- `restore`, `restore_step_by_step` and `apply_answer` tried on small states. Above each line stands what it rules out: a program that would leave another state, or
 -- answer another number or id. Assumes nothing.
 use Prim.Native.Nat.{ℕ}
 use mathlib.Core.Path.{_≡_, refl}
@@ -25,7 +25,7 @@ use Rattle.tracker.specs.Apply.{refusedOf, applyOf}
 use Rattle.tracker.specs.declared.ConfState.{ConfState}
 use Rattle.tracker.specs.declared.Outcome.{Outcome}
 use Rattle.changer.specs.declared.Answer.{Answer}
-use Rattle.restore.specs.Restore.{appliedTo, tooLong, restoreOf}
+use Rattle.restore.specs.Restore.{appliedTo, tooLong, restoreOf, stepByStepOf}
 
 abbrev leaves : State → Outcome
 leaves s = record { number = 0; id = 0; tracker = trackerOf s }
@@ -48,6 +48,13 @@ long =
       «auto_leave» = false;
     }
 
+-- voters (1) with an old record, and what is left of it and of fresh where the last step is refused
+abbrev half : State
+half = of (old 1 ∷ new 2 ∷ []) (conf (2 ∷ []) [] (1 ∷ []) [])
+
+abbrev halfFresh : State
+halfFresh = of (new 1 ∷ []) (conf (1 ∷ []) [] [] [])
+
 pub restored :
     -- does its first step only: voters (1); drops the flag; does not remove outgoing before it enters: (1 2)&&(1)
     (restoreOf (trackerOf s0) (confStateOf (flagged (2 ∷ []) [] (1 ∷ []) [])) 77 ≡ leaves joined)
@@ -56,14 +63,28 @@ pub restored :
     -- treats lists as sets: 17 for the second too (example 13)
     × (restoreOf (trackerOf s0) (confStateOf (lists (0 ∷ 1 ∷ []) [] [] [])) 77 ≡ refusedOf (trackerOf s0) 17 0)
     × (restoreOf (trackerOf s0) (confStateOf (lists (1 ∷ 0 ∷ []) [] [] [])) 77 ≡ leaves (of (new 1 ∷ []) (conf (1 ∷ []) [] [] [])))
-    -- undoes the steps before a refused one
-    × (restoreOf (trackerOf s0) (confStateOf (lists (1 ∷ []) (1 ∷ []) [] [])) 77 ≡ refusedOf (trackerOf (of (new 1 ∷ []) (conf (1 ∷ []) [] [] []))) 17 0)
+    -- keeps the steps before a refused one
+    × (restoreOf (trackerOf s0) (confStateOf (lists (1 ∷ []) (1 ∷ []) [] [])) 77 ≡ refusedOf (trackerOf s0) 17 0)
+    -- gives the fresh state in the place of the one given; keeps the record that a step made
+    × (restoreOf (trackerOf s1) (confStateOf (lists (2 ∷ []) (1 ∷ 2 ∷ []) [] [])) 77 ≡ refusedOf (trackerOf s1) 17 0)
     -- takes a list of 65
     × (restoreOf (trackerOf s0) long 77 ≡ refusedOf (trackerOf s0) 2 0)
     -- asks 2 before 1
     × (restoreOf (trackerOf m1) long 77 ≡ refusedOf (trackerOf m1) 1 0)
-unfolding restoreOf tooLong trackerWellFormed confWellFormed wellFormed zeros allUnused isUnused setOf recordPlaces recordsOf peersOf rules.restore run restorable restoreSteps oneByOne all ask simpleOf enterOf check each changes change table standingIn lastSays pending applyConf room enrol formed confFormed logFormed memb above ascending insertId insertAll removeId minus ids track untrack
-restored = (refl, refl, refl, refl, refl, refl, refl)
+unfolding restoreOf tooLong trackerWellFormed confWellFormed wellFormed zeros allUnused isUnused setOf recordPlaces recordsOf peersOf rules.restore rules.restoreStepByStep run restorable restoreSteps oneByOne all ask simpleOf enterOf check each changes change table standingIn lastSays pending applyConf room enrol formed confFormed logFormed memb above ascending insertId insertAll removeId minus ids track untrack
+restored = (refl, refl, refl, refl, refl, refl, refl, refl)
+
+pub restored-step-by-step :
+    -- does its first step only: voters (1)
+    (stepByStepOf (trackerOf s0) (confStateOf (flagged (2 ∷ []) [] (1 ∷ []) [])) 77 ≡ leaves joined)
+    -- undoes the steps before a refused one; makes a fresh record for a box that was tracked
+    × (stepByStepOf (trackerOf s0) (confStateOf (lists (1 ∷ []) (1 ∷ []) [] [])) 77 ≡ refusedOf (trackerOf halfFresh) 17 0)
+    × (stepByStepOf (trackerOf s1) (confStateOf (lists (2 ∷ []) (1 ∷ 2 ∷ []) [] [])) 77 ≡ refusedOf (trackerOf half) 17 0)
+    -- takes a list of 65; asks 2 before 1
+    × (stepByStepOf (trackerOf s0) long 77 ≡ refusedOf (trackerOf s0) 2 0)
+    × (stepByStepOf (trackerOf m1) long 77 ≡ refusedOf (trackerOf m1) 1 0)
+unfolding stepByStepOf tooLong trackerWellFormed confWellFormed wellFormed zeros allUnused isUnused setOf recordPlaces recordsOf peersOf rules.restoreStepByStep run restorable restoreSteps oneByOne all ask simpleOf enterOf check each changes change table standingIn lastSays pending applyConf room enrol formed confFormed logFormed memb above ascending insertId insertAll removeId minus ids track untrack
+restored-step-by-step = (refl, refl, refl, refl, refl)
 
 abbrev answer : ℕ → ℕ → Conf → List Entry → Answer
 answer n x c log = record { number = n; id = x; conf = configurationOf c; log = changeLogOf log; idle = 0 }

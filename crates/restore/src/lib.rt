@@ -1,4 +1,5 @@
-// `restore` of src/confchange/restore.rs: the configuration that a `ConfState` describes, one step after the other.
+// `restore` of src/confchange/restore.rs: the configuration that a `ConfState` describes, one step after the other. Here `restore` is whole, and the
+// Rust's is `restore_step_by_step`: document 02, g).
 use changer::Answer;
 use changer::enter_joint;
 use changer::simple;
@@ -18,7 +19,7 @@ ghost use Rattle.rules.specs.Restore.{all, enterStep, oneByOne, wanted};
 ghost use Rattle.tracker.specs.Bridge.{entriesIn, listsOf};
 ghost use Rattle.tracker.specs.Form.{trackerWellFormed};
 ghost use Rattle.changer.specs.Calls.{simpleAnswer};
-ghost use Rattle.restore.specs.Restore.{appliedTo, tooLong, stepsOf, restoreOf};
+ghost use Rattle.restore.specs.Restore.{appliedTo, tooLong, stepsOf, stepByStepOf, restoreOf};
 ghost use Rattle.restore.specs.Steps.{Appended, Listed, entered, jointSteps};
 
 // A change list: the first `len` of `ids` and of `kinds`.
@@ -28,9 +29,20 @@ pub struct Changes {
     pub len: usize,
 }
 
-// Runs a sequence of changes enacting the configuration described in the ConfState. A refused step ends it; earlier steps stay.
+// The configuration described in the ConfState, or the state given: where a step is refused, none stays.
 pub fn restore(t: Tracker, cs: ConfState, next_idx: u64) -> Outcome
     ensures { λ r. ⌜ r ≡ restoreOf t cs «next_idx» ⌝ }
+{
+    let o = restore_step_by_step(t, cs, next_idx);
+    if o.number != numbers::ACCEPTED {
+        return refused(t, o.number, o.id);
+    }
+    o
+}
+
+// Runs a sequence of changes enacting the configuration described in the ConfState. A refused step ends it; earlier steps stay.
+pub fn restore_step_by_step(t: Tracker, cs: ConfState, next_idx: u64) -> Outcome
+    ensures { λ r. ⌜ r ≡ stepByStepOf t cs «next_idx» ⌝ }
 {
     if t.is_malformed() {
         return refused(t, numbers::MALFORMED, 0);

@@ -1,6 +1,6 @@
 -- Demand 3. Assumes nothing.
 use Prim.Native.Nat.{ℕ, suc, _+_, _≤_}
-use mathlib.Core.Path.{_≡_, refl, ap, _∙_, sym}
+use mathlib.Core.Path.{_≡_, refl, ap, _∙_, subst, sym}
 use mathlib.Core.Bool.{Bool, true, false, _&&_, _||_, not, cond}
 use mathlib.Core.List.{List, [], _∷_, _++_, append-nil}
 use native.Mathlib.Omega.{arith}
@@ -11,12 +11,12 @@ use Rattle.progress.specs.Record.{freshRecord}
 use Rattle.progress.specs.declared.Progress.{Progress}
 use Rattle.rules.specs.Ids.{isEmpty}
 use Rattle.rules.specs.State.{Change, Conf, ConfState, Entry, Kind, State, addLearner, addNode, formed, noConf, removeNode}
-use Rattle.rules.specs.Answers.{Answer, Verdict, _⇒_, _▸_, accepted, each, fault, ok, refuse, refused}
+use Rattle.rules.specs.Answers.{Answer, Verdict, _⇒_, _▸_, accepted, each, fault, ok, refuse, refused, settle}
 use Rattle.rules.specs.Check.{inOrder}
 use Rattle.rules.specs.Calls.{enterJoint, enterOf, leaveJoint, leaveOf, listOf, readable, simple, simpleOf}
 use Rattle.rules.specs.Apply.{applied}
-use Rattle.rules.specs.Restore.{Step, all, applyAnswer, ask, enterStep, goOn, guarded, leaveStep, oneByOne, restorable, restore, restoreSteps, run, short, simpleStep, wanted}
-use Rattle.rules.specs.Sequences.{Call, Deed, afterCalls, deeds, deedsOf, deedsOfRun, enterCall, ifOk, leaveCall, perform, restoreCall, simpleCall}
+use Rattle.rules.specs.Restore.{Step, all, applyAnswer, ask, enterStep, goOn, guarded, leaveStep, oneByOne, restorable, restore, restoreStepByStep, restoreSteps, run, short, simpleStep, wanted}
+use Rattle.rules.specs.Sequences.{Call, Deed, afterCalls, deeds, deedsOf, deedsOfRun, enterCall, ifOk, inTurn, leaveCall, perform, restoreCall, simpleCall, stepByStepCall}
 use Rattle.rules.specs.Boxes.{Event, boxOf, events, named, naming, replay}
 use Rattle.rules.specs.Demands.{Kept}
 use Rattle.rules.proofs.Sets.{and-left, and-right, or-right}
@@ -24,6 +24,7 @@ use Rattle.rules.proofs.Plain.{events-append, replay-append, replay-ste
 use Rattle.rules.proofs.Check.{refuse-ok, then-left, then-right}
 use Rattle.rules.proofs.Steps.{Ordered, Stepped}
 use Rattle.rules.proofs.Means.{given-ok, given-then}
+use Rattle.rules.proofs.Whole.{steps-counted}
 use Rattle.rules.proofs.Order.{apply-ok, apply-ordered, asked, in-order, ordered-of, stepShort, tracked-members}
 
 -- ** Every list of a call can be read
@@ -150,6 +151,15 @@ answer-leads s o n p (accepted c log) h =
     rw (apply-ok s o n p c log d) (leads-step s (applied s c log n) (record { step = p; next = n }) o′ refl (d .boxes) (d .voters) (applied s c log n) [] (leads-none (applied s c log n) o′))
 answer-leads s o n p (refused m x) h = leads-none s o
 
+-- a restore, step by step
+steps-lead : (s : State) → Ordered s → (cs : ConfState) (n : ℕ) → Leads s (restoreStepByStep s cs n .state) (ifOk (restorable s cs) (deedsOfRun n s (restoreSteps cs)))
+unfolding restoreStepByStep
+steps-lead s o cs n = go (restorable s cs) refl
+  where
+    go : (v : Verdict) → restorable s cs ≡ v → Leads s (guarded v s (run n s (restoreSteps cs)) .state) (ifOk v (deedsOfRun n s (restoreSteps cs)))
+    go ok e = run-leads n (restoreSteps cs) (restore-short s cs e) s o
+    go (fault m x) e = leads-none s o
+
 pub call-leads : (s : State) → Ordered s → (c : Call) → Leads s (perform s c .state) (deedsOf s c)
 unfolding perform deedsOf simple enterJoint leaveJoint restore ask
 call-leads s o (simpleCall xs ks n) =
@@ -165,11 +175,13 @@ call-leads s o (enterCall auto xs ks n) =
 call-leads s o (leaveCall n) =
     answer-leads s o n leaveStep (refuse (not (formed s)) 1 0 ⇒ leaveOf s) (λ c log e.
     asked s o (freshRecord n (s .maxInflight)) leaveStep tt c log (given-then c log (refuse (not (formed s)) 1 0) (leaveOf s) e))
-call-leads s o (restoreCall cs n) = go (restorable s cs) refl
+call-leads s o (restoreCall cs n) = go (restoreStepByStep s cs n .verdict) refl
   where
-    go : (v : Verdict) → restorable s cs ≡ v → Leads s (guarded v s (run n s (restoreSteps cs)) .state) (ifOk v (deedsOfRun n s (restoreSteps cs)))
-    go ok e = run-leads n (restoreSteps cs) (restore-short s cs e) s o
+    go : (v : Verdict) → restoreStepByStep s cs n .verdict ≡ v
+        → Leads s (settle v s (restoreStepByStep s cs n .state) .state) (ifOk (settle v s (restoreStepByStep s cs n .state) .verdict) (inTurn n (restoreSteps cs)))
+    go ok e = subst (Leads s (restoreStepByStep s cs n .state)) (steps-counted s cs n e) (steps-lead s o cs n)
     go (fault m x) e = leads-none s o
+call-leads s o (stepByStepCall cs n) = steps-lead s o cs n
 
 pub calls-lead : (cs : List Call) (s : State) → Ordered s → Leads s (afterCalls s cs) (deeds s cs)
 unfolding afterCalls deeds

@@ -9,6 +9,7 @@ pub mod Means
 pub mod Steps
 pub mod Order
 pub mod Applied
+pub mod Whole
 pub mod Demand3
 pub mod Idle
 pub mod Records

@@ -10,8 +10,8 @@ use Rattle.rules.specs.Ids.{memb}
 use Rattle.rules.specs.State.{Peer, State, ids, fresh, Change, ConfState}
 use Rattle.rules.specs.Answers.{Verdict, ok, fault}
 use Rattle.rules.specs.Table.{Standing, none, idle, I, L, O, IO, OS, Effect, stays, adds, removes, table}
-use Rattle.rules.specs.Restore.{Step, simpleStep, enterStep, leaveStep, attempt, restorable, restoreSteps, restore}
-use Rattle.rules.specs.Sequences.{restoreCall, perform, ifOk, deedsOfRun, deedsOf}
+use Rattle.rules.specs.Restore.{Step, simpleStep, enterStep, leaveStep, attempt, restorable, restoreSteps, restoreStepByStep}
+use Rattle.rules.specs.Sequences.{stepByStepCall, perform, ifOk, deedsOfRun, deedsOf}
 use Rattle.rules.specs.Boxes.{Found, absent, found, recordOf, Box, boxOf, kept, changeBox, enterBox, leaveRecord, named, replay, naming, stepEvents, events}
 use Rattle.rules.proofs.Plain.{replay-append}
 use Rattle.rules.proofs.Steps.{Ordered}
@@ -75,11 +75,11 @@ tracked-found x (p ∷ ps) r m h = go (eqb (p .id) x) m h (tracked-found x ps r)
     go false m h ih = ih m h
 
 -- who is tracked after a restore to fresh has a fresh record, made with its `next_idx` and the state's `max_inflight`
-pub restored-records : (l n : ℕ) → Ordered (fresh l) → (cs : ConfState) (x : ℕ) → memb x (ids (restore (fresh l) cs n .state .peers)) ≡ true
-    → recordOf x (restore (fresh l) cs n .state .peers) ≡ found (freshRecord n l)
+pub restored-records : (l n : ℕ) → Ordered (fresh l) → (cs : ConfState) (x : ℕ) → memb x (ids (restoreStepByStep (fresh l) cs n .state .peers)) ≡ true
+    → recordOf x (restoreStepByStep (fresh l) cs n .state .peers) ≡ found (freshRecord n l)
 unfolding perform deedsOf recordOf replay events
 restored-records l n o cs x m =
-    tracked-found x (restore (fresh l) cs n .state .peers) (freshRecord n l) m (rw (ap (λ (b : Box). b .held) (call-leads (fresh l) o (restoreCall cs n) .boxes x)) (go (restorable (fresh l) cs)))
+    tracked-found x (restoreStepByStep (fresh l) cs n .state .peers) (freshRecord n l) m (rw (ap (λ (b : Box). b .held) (call-leads (fresh l) o (stepByStepCall cs n) .boxes x)) (go (restorable (fresh l) cs)))
   where
     none-yet : Only (freshRecord n l) (boxOf (fresh l) x .held)
     none-yet = tt

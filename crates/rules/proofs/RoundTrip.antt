@@ -18,8 +18,8 @@ use Rattle.rules.specs.Table.{I, IO, L, O, OS, Places, Standing, idle, n
 use Rattle.rules.specs.Changes.{Work, changes, done}
 use Rattle.rules.specs.Calls.{enterOf, entering, start, withAuto}
 use Rattle.rules.specs.Apply.{applied, enrol, toConfState}
-use Rattle.rules.specs.Restore.{Step, all, ask, enterStep, goOn, oneByOne, restorable, restore, restoreSteps, run, simpleStep, wanted}
-use Rattle.rules.specs.Sequences.{Call, afterCalls, deeds, perform, restoreCall}
+use Rattle.rules.specs.Restore.{Step, all, ask, enterStep, goOn, oneByOne, restorable, restoreStepByStep, restoreSteps, run, simpleStep, wanted}
+use Rattle.rules.specs.Sequences.{Call, afterCalls, deeds, perform, stepByStepCall}
 use Rattle.rules.specs.Boxes.{Box, Found, absent, boxOf, changeBox, enterBox, recordOf}
 use Rattle.rules.specs.Demands.{ComesBack}
 use Rattle.rules.proofs.Sets.{ascending-ext, length-part, memb-head, or-true}
@@ -30,6 +30,7 @@ use Rattle.rules.proofs.Check.{Passes, passes-of}
 use Rattle.rules.proofs.Steps.{Ordered, Stepped, enter-box, isIdle, no-joint}
 use Rattle.rules.proofs.Order.{apply-ok, apply-ordered, asked, formed-of, ordered-of}
 use Rattle.rules.proofs.Demand3.{Leads, Reached, calls-lead, length-of}
+use Rattle.rules.proofs.Whole.{whole-accepted}
 use Rattle.rules.proofs.Records.{restored-records}
 use Rattle.rules.proofs.Accept.{Within, changes-fit, enter-accepted, fine-enter, inside}
 use Rattle.rules.proofs.Singles.{Good, Ran, changes-append, incoming-of, learners-run, memb-some, ran-more, ran-none, run-append, voters-run}
@@ -431,19 +432,20 @@ module _ (s : State) (o : Ordered s) (k : Reached s) (m n : ℕ) where
       go true e = single-back (rw e)
       go false e = joint-back (rw e)
 
-  still : restore f lists n .state .maxInflight ≡ m
+  still : restoreStepByStep f lists n .state .maxInflight ≡ m
   unfolding afterCalls perform
-  still = calls-lead (restoreCall lists n ∷ []) f of .inflight
+  still = calls-lead (stepByStepCall lists n ∷ []) f of .inflight
 
   pub comes-back : ComesBack s m n
-  unfolding restore
+  unfolding restoreStepByStep
   comes-back =
       record {
         writes = rw writes;
-        back = rw writes (record { verdict = same .verdict; conf = same .conf; tracked = same .tracked; records = restored-records m n of lists; inflight = still });
+        back = rw (writes, whole-accepted f lists n (same .verdict))
+            (record { verdict = same .verdict; conf = same .conf; tracked = same .tracked; records = restored-records m n of lists; inflight = still });
       }
     where
-      same : Same s (restore f lists n)
+      same : Same s (restoreStepByStep f lists n)
       same = rw restores runs
 
 -- ** The round trip

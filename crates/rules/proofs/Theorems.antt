@@ -8,7 +8,7 @@ use lib.Dec.{eqb}
 use lib.ListN.{length}
 use Rattle.progress.specs.declared.Progress.{Progress}
 use Rattle.rules.specs.Ids.{memb, ascending, isEmpty}
-use Rattle.rules.specs.State.{Conf, Peer, State, ids, members, formed, fresh, noConf, Change, Entry}
+use Rattle.rules.specs.State.{Conf, ConfState, Peer, State, ids, members, formed, fresh, noConf, Change, Entry}
 use Rattle.rules.specs.Answers.{ok, fault, accepted, refuse, _▸_}
 use Rattle.rules.specs.Check.{check, isTracked, inOrder, joint}
 use Rattle.rules.specs.Table.{placesOf, placesIn}
@@ -20,7 +20,7 @@ use Rattle.rules.specs.Restore.{Step, simpleStep, enterStep, leaveStep, 
 use Rattle.rules.specs.Sequences.{Call, perform, afterCalls}
 use Rattle.rules.specs.Boxes.{Box, changeBox, naming}
 use Rattle.rules.specs.Rust.{byKind}
-use Rattle.rules.specs.Demands.{Kept, ComesBack}
+use Rattle.rules.specs.Demands.{Kept, ComesBack, Whole}
 use Rattle.rules.proofs.Plain.{changesBox}
 use Rattle.rules.proofs.Boxes.{boxAt}
 use Rattle.rules.proofs.Changes.{now, Fine, After, change-done, tracked-now}
@@ -31,6 +31,7 @@ use Rattle.rules.proofs.Order.{formed-of, ordered-of, stepShort}
 use Rattle.rules.proofs.Accept.{leave-accepted}
 use Rattle.rules.proofs.Applied.{any-applied}
 use Rattle.rules.proofs.Idle.{enter-counts, simple-counts}
+use Rattle.rules.proofs.Whole.{whole}
 use Rattle.rules.proofs.Demand3.{demand-3, read-short, others-alter-nothing}
 use Rattle.rules.proofs.Table.{change-agrees}
 use Rattle.rules.proofs.Thirteen.{check-never-13, call-never-13}
@@ -137,6 +138,13 @@ empty-comes-back = empty-trip
 -- "No change list makes such a state from fresh", nor do any calls
 pub fresh-leads-to-order : (m : ℕ) (cs : List Call) → inOrder (afterCalls (fresh m) cs) ≡ true
 fresh-leads-to-order m cs = demand-3 (fresh m) (fresh-in-order m) cs .ordered
+
+-- ** Whole restore: document 02, g)
+
+-- "a refused `restore` now returns the state it was given, with the same number and id"; an accepted one is the one step by step; "in demand 3 a
+-- refused whole restore counts no steps", an accepted one its steps
+pub restore-is-whole : (s : State) (cs : ConfState) (n : ℕ) → Whole s cs n
+restore-is-whole = whole
 
 -- ** The demands
 

@@ -6,13 +6,13 @@ use mathlib.Core.List.{List, [], _∷_}
 use lib.Dec.{eqb, leb}
 use lib.ListN.{length}
 use Rattle.rules.specs.Ids.{insertAll, isEmpty, memb}
-use Rattle.rules.specs.State.{logFormed, Conf, Entry, State, add, confFormed, formed, ids, remove}
+use Rattle.rules.specs.State.{logFormed, Conf, ConfState, Entry, State, add, confFormed, formed, ids, remove}
 use Rattle.rules.specs.Answers.{Answer, Outcome, Verdict, _⇒_, _▸_, accepted, each, fault, ok, refuse, refused, settle}
 use Rattle.rules.specs.Check.{check, joint}
 use Rattle.rules.specs.Calls.{enterJoint, enterOf, leaveJoint, leaveOf, listOf, readable, simple, simpleOf}
 use Rattle.rules.specs.Apply.{applied, applyConf, room}
-use Rattle.rules.specs.Restore.{Step, applyAnswer, ask, attempt, enterStep, goOn, guarded, leaveStep, restorable, restore, restoreSteps, run, short, simpleStep}
-use Rattle.rules.specs.Sequences.{Call, enterCall, leaveCall, perform, restoreCall, simpleCall}
+use Rattle.rules.specs.Restore.{Step, applyAnswer, ask, attempt, enterStep, goOn, guarded, leaveStep, restorable, restore, restoreStepByStep, restoreSteps, run, short, simpleStep}
+use Rattle.rules.specs.Sequences.{Call, enterCall, leaveCall, perform, restoreCall, simpleCall, stepByStepCall}
 use Rattle.rules.proofs.Numbers.{Numbered, NumberedAnswer, asked-numbered, each-numbered, given-numbered, readable-numbered, refuse-numbered, then-numbered}
 
 -- any number but 13
@@ -94,14 +94,9 @@ ill-other s = refuse-numbered Other (not (formed s)) 1 0 refl
 before-other : (s : State) (xs ks : List ℕ) → Numbered Other (refuse (not (formed s)) 1 0 ▸ readable xs ks)
 before-other s xs ks = then-numbered Other (refuse (not (formed s)) 1 0) (readable xs ks) (ill-other s) (readable-numbered Other refl refl xs ks)
 
-call-other : (s : State) (c : Call) → Numbered Other (perform s c .verdict)
-unfolding perform simple enterJoint leaveJoint restore restorable ask
-call-other s (simpleCall xs ks n) =
-    answer-other n s (refuse (not (formed s)) 1 0 ▸ readable xs ks ⇒ simpleOf s (listOf xs ks)) (given-numbered Other _ _ (before-other s xs ks) (ask-other s (simpleStep (listOf xs ks))))
-call-other s (enterCall auto xs ks n) =
-    answer-other n s (refuse (not (formed s)) 1 0 ▸ readable xs ks ⇒ enterOf s auto (listOf xs ks)) (given-numbered Other _ _ (before-other s xs ks) (ask-other s (enterStep auto (listOf xs ks))))
-call-other s (leaveCall n) = answer-other n s (refuse (not (formed s)) 1 0 ⇒ leaveOf s) (given-numbered Other _ _ (ill-other s) (ask-other s leaveStep))
-call-other s (restoreCall cs n) = go (restorable s cs) (then-numbered Other _ _ (ill-other s) (refuse-numbered Other long 2 0 refl))
+steps-other : (s : State) (cs : ConfState) (n : ℕ) → Numbered Other (restoreStepByStep s cs n .verdict)
+unfolding restoreStepByStep restorable
+steps-other s cs n = go (restorable s cs) (then-numbered Other _ _ (ill-other s) (refuse-numbered Other long 2 0 refl))
   where
     long : Bool
     long = not (short (cs .voters) && short (cs .learners) && short (cs .votersOutgoing) && short (cs .learnersNext))
@@ -109,6 +104,16 @@ call-other s (restoreCall cs n) = go (restorable s cs) (then-numbered Other _ _ 
     go : (v : Verdict) → Numbered Other v → Numbered Other (guarded v s (run n s (restoreSteps cs)) .verdict)
     go ok e = run-other n (restoreSteps cs) s
     go (fault m y) e = e
+
+call-other : (s : State) (c : Call) → Numbered Other (perform s c .verdict)
+unfolding perform simple enterJoint leaveJoint restore ask
+call-other s (simpleCall xs ks n) =
+    answer-other n s (refuse (not (formed s)) 1 0 ▸ readable xs ks ⇒ simpleOf s (listOf xs ks)) (given-numbered Other _ _ (before-other s xs ks) (ask-other s (simpleStep (listOf xs ks))))
+call-other s (enterCall auto xs ks n) =
+    answer-other n s (refuse (not (formed s)) 1 0 ▸ readable xs ks ⇒ enterOf s auto (listOf xs ks)) (given-numbered Other _ _ (before-other s xs ks) (ask-other s (enterStep auto (listOf xs ks))))
+call-other s (leaveCall n) = answer-other n s (refuse (not (formed s)) 1 0 ⇒ leaveOf s) (given-numbered Other _ _ (ill-other s) (ask-other s leaveStep))
+call-other s (restoreCall cs n) = settle-other (restoreStepByStep s cs n .verdict) s (restoreStepByStep s cs n .state) (steps-other s cs n)
+call-other s (stepByStepCall cs n) = steps-other s cs n
 
 -- no call gives 13
 pub call-never-13 : (s : State) (c : Call) (x : ℕ) → perform s c .verdict ≡ fault 13 x → ⊥

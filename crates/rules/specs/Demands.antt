@@ -1,17 +1,18 @@
--- What demands 2 and 3 ask of the rules, as statements; proofs/Demand3.antt and proofs/RoundTrip.antt prove them. Assumes nothing.
+-- What demands 2 and 3, and document 02's g), ask of the rules, as statements; proofs/Demand3.antt, proofs/RoundTrip.antt and proofs/Whole.antt
+-- prove them. Assumes nothing.
 use Prim.Native.Nat.{ℕ}
 use mathlib.Core.Path.{_≡_}
 use mathlib.Core.Bool.{true}
-use mathlib.Core.List.{List}
+use mathlib.Core.List.{List, []}
 use Rattle.progress.specs.Record.{freshRecord}
 use Rattle.rules.specs.Ids.{memb}
-use Rattle.rules.specs.State.{State, ids, fresh, members}
-use Rattle.rules.specs.Answers.{ok, Outcome}
+use Rattle.rules.specs.State.{ConfState, State, ids, fresh, members}
+use Rattle.rules.specs.Answers.{fault, ok, Outcome}
 use Rattle.rules.specs.Check.{isTracked, inOrder}
 use Rattle.rules.specs.Table.{placesOf, placesIn}
 use Rattle.rules.specs.Apply.{toConfState}
-use Rattle.rules.specs.Restore.{restore}
-use Rattle.rules.specs.Sequences.{Call, afterCalls, deeds}
+use Rattle.rules.specs.Restore.{restore, restoreStepByStep, restoreSteps}
+use Rattle.rules.specs.Sequences.{Call, afterCalls, deeds, deedsOf, inTurn, restoreCall, stepByStepCall}
 use Rattle.rules.specs.Boxes.{found, recordOf, boxOf, replay, events}
 
 -- Demand 3. After the calls cs, made from s: the state is in order, "the tracked boxes are exactly the members", a box's standing
@@ -36,3 +37,14 @@ pub record Back (s : State) (l n : ℕ) (o : Outcome) : Type 0 where
 pub record ComesBack (s : State) (l n : ℕ) : Type 0 where
   pub writes : toConfState s .verdict ≡ ok
   pub back : Back s l n (restore (fresh l) (toConfState s .confState) n)
+
+-- Document 02, g), of a restore asked of s: it says what the one step by step says, "the same number and id".
+pub record Whole (s : State) (cs : ConfState) (n : ℕ) : Type 0 where
+  pub verdict : restore s cs n .verdict ≡ restoreStepByStep s cs n .verdict
+  -- refused, it "returns the state it was given" and "counts no steps"
+  pub refused : (m x : ℕ) → restore s cs n .verdict ≡ fault m x → restore s cs n .state ≡ s
+  pub no-step : (m x : ℕ) → restore s cs n .verdict ≡ fault m x → deedsOf s (restoreCall cs n) ≡ []
+  -- accepted, it is the one step by step, and counts its steps
+  pub accepted : restore s cs n .verdict ≡ ok → restore s cs n ≡ restoreStepByStep s cs n
+  pub its-steps : restore s cs n .verdict ≡ ok → deedsOf s (restoreCall cs n) ≡ inTurn n (restoreSteps cs)
+  pub same-steps : restore s cs n .verdict ≡ ok → deedsOf s (stepByStepCall cs n) ≡ inTurn n (restoreSteps cs)

@@ -10,8 +10,8 @@ use Rattle.rules.specs.Table.{table, standingIn}
 use Rattle.rules.specs.Changes.{lastSays, pending, change, changes}
 use Rattle.rules.specs.Calls.{listOf, readable, simpleOf, simple, enterOf, enterJoint, removals, leaveOf, leaveJoint}
 use Rattle.rules.specs.Apply.{track, untrack, room, enrol, applyConf}
-use Rattle.rules.specs.Restore.{ask, run, all, oneByOne, restoreSteps, restorable, restore}
-use Rattle.rules.specs.Sequences.{simpleCall, enterCall, leaveCall, restoreCall, perform}
+use Rattle.rules.specs.Restore.{ask, run, all, oneByOne, restoreSteps, restorable, restoreStepByStep, restore}
+use Rattle.rules.specs.Sequences.{simpleCall, enterCall, leaveCall, restoreCall, stepByStepCall, perform}
 use Rattle.rules.specs.Rows.{old, new, olds, conf, of, lists, Row, row, told, asked}
 
 abbrev s0 : State
@@ -59,12 +59,15 @@ rows =
     ∷ row 9 s9 (leaveCall 78) ok (of (old 1 ∷ old 2 ∷ []) (conf (1 ∷ 2 ∷ []) [] [] [])) (remove 3 ∷ [])
     ∷ row 10 s12 (simpleCall (2 ∷ 2 ∷ []) (1 ∷ 2 ∷ []) 77) ok (of (old 1 ∷ new 2 ∷ []) (s12 .conf)) (remove 2 ∷ add 2 ∷ [])
     ∷ row 11 s0 (restoreCall (lists (1 ∷ 2 ∷ 3 ∷ []) (5 ∷ []) (1 ∷ 2 ∷ 4 ∷ 6 ∷ []) (4 ∷ [])) 77) ok s11 []
+    ∷ row 11 s0 (stepByStepCall (lists (1 ∷ 2 ∷ 3 ∷ []) (5 ∷ []) (1 ∷ 2 ∷ 4 ∷ 6 ∷ []) (4 ∷ [])) 77) ok s11 []
     ∷ row 11 s11a (enterCall false (1 ∷ 2 ∷ 4 ∷ 6 ∷ 1 ∷ 2 ∷ 3 ∷ 5 ∷ 4 ∷ []) (1 ∷ 1 ∷ 1 ∷ 1 ∷ 0 ∷ 0 ∷ 0 ∷ 2 ∷ 2 ∷ []) 77) ok s11 (add 3 ∷ add 5 ∷ [])
     ∷ row 11 s11 (leaveCall 78) ok (of (new 1 ∷ new 2 ∷ new 3 ∷ new 4 ∷ new 5 ∷ []) (conf (1 ∷ 2 ∷ 3 ∷ []) [] (4 ∷ 5 ∷ []) [])) (remove 6 ∷ [])
-    ∷ row 12 s0 (restoreCall (lists (1 ∷ 2 ∷ []) (1 ∷ 2 ∷ []) [] []) 77) (fault 17 0) (of (new 1 ∷ new 2 ∷ []) (conf (2 ∷ []) [] (1 ∷ []) [])) []
+    -- document 02, g): "example 12 .. ask by name for step-by-step restore"; by `restore` it is refused whole
+    ∷ row 12 s0 (stepByStepCall (lists (1 ∷ 2 ∷ []) (1 ∷ 2 ∷ []) [] []) 77) (fault 17 0) (of (new 1 ∷ new 2 ∷ []) (conf (2 ∷ []) [] (1 ∷ []) [])) []
+    ∷ row 12 s0 (restoreCall (lists (1 ∷ 2 ∷ []) (1 ∷ 2 ∷ []) [] []) 77) (fault 17 0) s0 []
     ∷ []
 
 -- each call of the table, made on the state before it, gives the verdict, the state and the log that stand there
 pub every-row : asked rows ≡ told rows
-unfolding perform restore run restorable restoreSteps oneByOne all ask simple enterJoint leaveJoint readable listOf simpleOf enterOf leaveOf check each changes change table standingIn lastSays pending removals applyConf room enrol formed confFormed logFormed memb above ascending insertId insertAll removeId minus ids track untrack
+unfolding perform restore restoreStepByStep run restorable restoreSteps oneByOne all ask simple enterJoint leaveJoint readable listOf simpleOf enterOf leaveOf check each changes change table standingIn lastSays pending removals applyConf room enrol formed confFormed logFormed memb above ascending insertId insertAll removeId minus ids track untrack
 every-row = refl

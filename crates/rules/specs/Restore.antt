@@ -1,4 +1,5 @@
--- `restore`: document 01, "What one change does to one id". Assumes nothing.
+-- `restore_step_by_step`, which is `restore` of document 01, "What one change does to one id", and the whole `restore` of document 02, g).
+-- Assumes nothing.
 use Prim.Native.Nat.{ℕ}
 use mathlib.Core.Bool.{Bool, _&&_, not, cond}
 use mathlib.Core.List.{List, [], _∷_, _++_}
@@ -6,7 +7,7 @@ use lib.ListN.{length}
 use lib.Dec.{leb}
 use Rattle.rules.specs.Ids.{isEmpty}
 use Rattle.rules.specs.State.{Change, ConfState, Kind, State, addLearner, addNode, formed, removeNode}
-use Rattle.rules.specs.Answers.{Answer, Outcome, Verdict, _▸_, accepted, fault, ok, refuse, refused}
+use Rattle.rules.specs.Answers.{Answer, Outcome, Verdict, _▸_, accepted, fault, ok, refuse, refused, settle}
 use Rattle.rules.specs.Calls.{enterOf, leaveOf, simpleOf}
 use Rattle.rules.specs.Apply.{applyConf}
 
@@ -74,5 +75,9 @@ guarded ok s o = o
 guarded (fault n x) s o = record { verdict = fault n x; state = s }
 
 -- "It gives no log. Four empty lists are accepted and change nothing."
+unfoldable pub restoreStepByStep : State → ConfState → ℕ → Outcome
+restoreStepByStep s cs next = guarded (restorable s cs) s (run next s (restoreSteps cs))
+
+-- Document 02, g): "By default a refused `restore` now returns the state it was given, with the same number and id."
 unfoldable pub restore : State → ConfState → ℕ → Outcome
-restore s cs next = guarded (restorable s cs) s (run next s (restoreSteps cs))
+restore s cs next = settle (restoreStepByStep s cs next .verdict) s (restoreStepByStep s cs next .state)

@@ -6,7 +6,7 @@ use Rattle.progress.specs.Record.{freshRecord}
 use Rattle.rules.specs.State.{Conf, Peer, State, Entry, ConfState}
 use Rattle.rules.specs.Answers.{Verdict, Answer, accepted, refused, Outcome}
 use Rattle.rules.specs.Calls.{simple, enterJoint, leaveJoint}
-use Rattle.rules.specs.Sequences.{Call, simpleCall, enterCall, leaveCall, restoreCall, perform}
+use Rattle.rules.specs.Sequences.{Call, simpleCall, enterCall, leaveCall, restoreCall, stepByStepCall, perform}
 
 -- a box with a record from before the call, and one with a record that the call makes (its `next_idx` is 77)
 abbrev pub old : ℕ → Peer
@@ -51,6 +51,7 @@ logOf s (simpleCall xs ks n) = logIn (simple s xs ks)
 logOf s (enterCall a xs ks n) = logIn (enterJoint s a xs ks)
 logOf s (leaveCall n) = logIn (leaveJoint s)
 logOf s (restoreCall cs n) = []
+logOf s (stepByStepCall cs n) = []
 
 pub record Seen : Type 0 where
   pub outcome : Outcome
