@@ -14,7 +14,7 @@ use Rattle.rules.specs.Answers as answers
 use Rattle.rules.specs.Answers.{Verdict, _▸_, fault, ok, refuse, refused, settle}
 use Rattle.rules.specs.Check.{checkState}
 use Rattle.rules.specs.Apply.{applied, applyConf, noConfState, room, toConfState}
-use Rattle.rules.specs.Restore.{guarded, restorable, restore, restoreSteps, run}
+use Rattle.rules.specs.Restore.{guarded, restorable, restore, restoreStepByStep, restoreSteps, run}
 use Rattle.rules.specs.Idle.{enterIdles, simpleIdles}
 use Rattle.rules.proofs.Changes.{ids-enrol}
 use Rattle.rules.proofs.Check.{refuse-ok, then-left, then-right}
@@ -36,13 +36,13 @@ use Rattle.invariants.specs.Check.{checkOf, inOrderOf}
 use Rattle.changer.specs.Calls.{answerOf, enterAnswer, ifFormed, leaveAnswer, simpleAnswer}
 use Rattle.changer.specs.declared.Answer.{Answer}
 use Rattle.changer.proofs.Pending.{pending-set}
-use Rattle.restore.specs.Restore.{restoreOf, tooLong}
+use Rattle.restore.specs.Restore.{restoreOf, restoring, stepByStepOf, tooLong}
 use Rattle.restore.proofs.Applied.{Fits, enter-fits, leave-fits, simple-fits}
 use Rattle.restore.proofs.Steps.{run-left}
 use Rattle.calls.specs.Layout.{confAt, confStateAt, entriesAt, flag, listAt, logAt, number, recordAt, recordsAt, setAt, stateAt, word, words}
 use Rattle.calls.specs.Call.{callAnswer, callLeaves, fromAnswer, fromOutcome, fromVerdict, fromWritten, kindsIn, noLists, noLog, reply, replyTo}
 use Rattle.calls.proofs.Typed.{U64, Each, none, more, ArrayOf, TypedSet, TypedList, TypedConf, TypedRecord, TypedState, TypedEntry, TypedLog, TypedConfState, TypedReply}
-use Rattle.calls.proofs.TypedRules.{Answered, U64Outcome, Said, answered, applied-u64, checked-said, declined, either, enter-u64, faulted, leave-u64, passed, restore-u64, simple-u64}
+use Rattle.calls.proofs.TypedRules.{Answered, U64Outcome, Said, answered, applied-u64, checked-said, declined, either, enter-u64, faulted, leave-u64, passed, restore-u64, steps-restored-u64, simple-u64}
 use Rattle.calls.proofs.TypedBridge.{each-take, conf-u64, state-u64, log-u64, lists-u64, conf-made, lists-made, no-lists, state-made, log-made}
 use Rattle.calls.proofs.Round.{call-round, replyAt}
 
@@ -100,13 +100,21 @@ apply-formed s f c log next = go (ill ▸ room log (ids (s .peers))) refl
         of-whole (applied s c log next)
         (record { sets = sets-of c fits; tracked = rw ids-enrol (pending-set log (ids (s .peers)) (whole-of s f .tracked) (then-right ill (room log (ids (s .peers))) e)) })
 
-restore-formed : (s : State) → formed s ≡ true → (k : rules.ConfState) (next : ℕ) → formed (restore s k next .state) ≡ true
-unfolding restore
-restore-formed s f k next = go (restorable s k) refl
+steps-formed : (s : State) → formed s ≡ true → (k : rules.ConfState) (next : ℕ) → formed (restoreStepByStep s k next .state) ≡ true
+unfolding restoreStepByStep
+steps-formed s f k next = go (restorable s k) refl
   where
     go : (v : Verdict) → restorable s k ≡ v → formed (guarded v s (run next s (restoreSteps k)) .state) ≡ true
     go ok e = run-left next (restoreSteps k) (restore-short s k e) s f .good
     go (fault n x) e = f
+
+restore-formed : (s : State) → formed s ≡ true → (k : rules.ConfState) (next : ℕ) → formed (restore s k next .state) ≡ true
+unfolding restore
+restore-formed s f k next = go (restoreStepByStep s k next .verdict)
+  where
+    go : (v : Verdict) → formed (settle v s (restoreStepByStep s k next .state) .state) ≡ true
+    go ok = steps-formed s f k next
+    go (fault n x) = f
 
 number-said : {v : Verdict} → Said v → U64 (numberOf v)
 number-said passed = omega arith
@@ -141,15 +149,20 @@ module _ {t : Tracker} (z : TypedState t) {next : ℕ} (n : U64 next) where
           outcome-typed (applied-u64 n (state-u64 z) (conf-u64 y) (log-u64 l)) (apply-formed (stateOf t) f (confOf c) (logOf log) next)
       go false e = record { number = omega arith; id = omega arith; tracker = z }
 
+  restoring-typed : (k : ConfState) (o : answers.Outcome) → U64Outcome o → (trackerWellFormed t ≡ true → formed (o .state) ≡ true) → TypedOutcome (restoring t k o)
+  restoring-typed k o u f = go (trackerWellFormed t) refl
+    where
+      go : (b : Bool) → trackerWellFormed t ≡ b → TypedOutcome (cond b (cond (tooLong k) (refusedOf t 2 0) (outcomeOf o)) (refusedOf t 1 0))
+      go true e = either TypedOutcome (tooLong k) (record { number = omega arith; id = omega arith; tracker = z }) (outcome-typed u (f e))
+      go false e = record { number = omega arith; id = omega arith; tracker = z }
+
   restore-typed : {k : ConfState} → TypedConfState k → TypedOutcome (restoreOf t k next)
   unfolding restoreOf
-  restore-typed {k} y = go (trackerWellFormed t) refl
-    where
-      go : (b : Bool) → trackerWellFormed t ≡ b → TypedOutcome (cond b (cond (tooLong k) (refusedOf t 2 0) (outcomeOf (restore (stateOf t) (listsOf k) next))) (refusedOf t 1 0))
-      go true e =
-          either TypedOutcome (tooLong k) (record { number = omega arith; id = omega arith; tracker = z })
-          (outcome-typed (restore-u64 n (state-u64 z) (lists-u64 y)) (restore-formed (stateOf t) (tracker-formed t e) (listsOf k) next))
-      go false e = record { number = omega arith; id = omega arith; tracker = z }
+  restore-typed {k} y = restoring-typed k (restore (stateOf t) (listsOf k) next) (restore-u64 n (state-u64 z) (lists-u64 y)) (λ e. restore-formed (stateOf t) (tracker-formed t e) (listsOf k) next)
+
+  steps-typed : {k : ConfState} → TypedConfState k → TypedOutcome (stepByStepOf t k next)
+  unfolding stepByStepOf
+  steps-typed {k} y = restoring-typed k (restoreStepByStep (stateOf t) (listsOf k) next) (steps-restored-u64 n (state-u64 z) (lists-u64 y)) (λ e. steps-formed (stateOf t) (tracker-formed t e) (listsOf k) next)
 
 -- ** A request
 
@@ -286,7 +299,8 @@ module _ {s : List ℕ} (p : Each Byte s) where
       (either TypedReply (eqb (word s 0) 4) (from-answer-typed z (leave-typed z))
       (either TypedReply (eqb (word s 0) 5) (from-outcome-typed (apply-typed z n (conf-typed p 1492) (log-typed p 1753)))
       (either TypedReply (eqb (word s 0) 6) (written-typed z)
-      (from-outcome-typed (restore-typed z n (conf-state-typed p 2266)))))))))
+      (either TypedReply (eqb (word s 0) 7) (from-outcome-typed (restore-typed z n (conf-state-typed p 2266)))
+      (from-outcome-typed (steps-typed z n (conf-state-typed p 2266))))))))))
 
   -- what the entry leaves where it accepts a request of bytes is read as the reply to that request
   pub bytes-round : (out : List ℕ) → callAnswer s (length out) ≡ 0 → replyAt (callLeaves s out) ≡ replyTo s

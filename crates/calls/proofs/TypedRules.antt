@@ -16,7 +16,7 @@ use Rattle.rules.specs.Table.{Effect, Standing, adds, place, placesOf, put, rem
 use Rattle.rules.specs.Changes.{Done, Work, andThen, change, changes, done, full, logged, pending, pendingTracked, standingNow}
 use Rattle.rules.specs.Calls.{afterwards, difference, enterJoint, enterOf, gone, leaveJoint, leaveOf, leaving, listOf, readable, removals, simple, simpleOf, withAuto}
 use Rattle.rules.specs.Apply.{applyConf, enrol, room, track, untrack}
-use Rattle.rules.specs.Restore.{Step, all, applyAnswer, ask, attempt, enterStep, goOn, guarded, leaveStep, oneByOne, restorable, restore, restoreSteps, run, short, simpleStep, wanted}
+use Rattle.rules.specs.Restore.{Step, all, applyAnswer, ask, attempt, enterStep, goOn, guarded, leaveStep, oneByOne, restorable, restore, restoreStepByStep, restoreSteps, run, short, simpleStep, wanted}
 use Rattle.calls.proofs.Typed.{U64, Each, none, more, each-append, TypedRecord}
 
 -- what holds of both branches holds of the one taken
@@ -327,10 +327,20 @@ guarded-u64 : {v : Verdict} {s : State} {o : Outcome} → Said v → U64State s 
 guarded-u64 passed z q = q
 guarded-u64 (faulted h k) z q = record { verdict = faulted h k; state = z }
 
-pub restore-u64 : {next : ℕ} → U64 next → {s : State} {k : ConfState} → U64State s → U64Lists k → U64Outcome (restore s k next)
-unfolding restore restorable
-restore-u64 n {s} {k} z y =
+settled-u64 : {v : Verdict} {s u : State} → Said v → U64State s → U64State u → U64Outcome (settle v s u)
+settled-u64 passed z q = record { verdict = passed; state = q }
+settled-u64 (faulted h k) z q = record { verdict = faulted h k; state = z }
+
+pub steps-restored-u64 : {next : ℕ} → U64 next → {s : State} {k : ConfState} → U64State s → U64Lists k → U64Outcome (restoreStepByStep s k next)
+unfolding restoreStepByStep restorable
+steps-restored-u64 n {s} {k} z y =
     guarded-u64
     (then-said (refuse-said (not (formed s)) 1 0 (omega arith) (omega arith))
     (refuse-said (not (short (k .voters) && short (k .learners) && short (k .votersOutgoing) && short (k .learnersNext))) 2 0 (omega arith) (omega arith)))
     z (run-u64 n (steps-u64 y) s z)
+
+pub restore-u64 : {next : ℕ} → U64 next → {s : State} {k : ConfState} → U64State s → U64Lists k → U64Outcome (restore s k next)
+unfolding restore
+restore-u64 n z y =
+    let o = steps-restored-u64 n z y in
+    settled-u64 (o .verdict) z (o .state)

@@ -1,7 +1,7 @@
 -- What each call answers, by the word that asks for it, and what the entry returns and leaves. Assumes nothing.
 use Prim.Native.Nat.{ℕ, zero, suc, _+_, _≤_, _<_, min}
 use mathlib.Core.Path.{_≡_, refl, ap, sym, _∙_}
-use mathlib.Core.Bool.{Bool, true, false}
+use mathlib.Core.Bool.{Bool, true, false, cond}
 use mathlib.Core.List.{List, _++_}
 use native.Mathlib.Omega.{arith, min-cases}
 use borrow.Author.Tests.{eqb-true, eqb-false, eq-eqb, ne-eqb, lt-ltb, le-ltb}
@@ -10,15 +10,18 @@ use lib.ListN.{length, take, drop, length-take}
 use lib.Seq.{take-all}
 use Rattle.tracker.specs.Apply.{applyOf}
 use Rattle.tracker.specs.ConfStates.{writtenOf}
+use Rattle.tracker.specs.declared.ConfState.{ConfState}
+use Rattle.tracker.specs.declared.Outcome.{Outcome}
 use Rattle.tracker.specs.declared.Tracker.{Tracker}
 use Rattle.invariants.specs.Check.{checkOf, inOrderOf}
 use Rattle.changer.specs.Calls.{simpleAnswer, enterAnswer, leaveAnswer}
-use Rattle.restore.specs.Restore.{restoreOf}
+use Rattle.restore.specs.Restore.{restoreOf, stepByStepOf, wholeOf}
+use Rattle.restore.proofs.Restored.{made-whole}
 use Rattle.text.specs.Put.{Put, last}
 use Rattle.text.proofs.Laws.{put-whole}
 use Rattle.calls.specs.Layout.{word, words, flag, confAt, stateAt, logAt, confStateAt, kindsAt, changeListAt, holds}
 use Rattle.calls.specs.Reply.{allBytes}
-use Rattle.calls.specs.Call.{reply, noLog, noLists, fromVerdict, fromAnswer, fromOutcome, fromWritten, idsIn, kindsIn, askIn, replyTo, replyWords, callAnswer, callLeaves}
+use Rattle.calls.specs.Call.{reply, noLog, noLists, fromVerdict, fromAnswer, fromOutcome, fromWritten, idsIn, kindsIn, askIn, restoredIn, replyTo, replyWords, callAnswer, callLeaves}
 use Rattle.calls.specs.declared.Reply.{Reply}
 use Rattle.calls.specs.declared.read.ChangeList.{ChangeList}
 use Rattle.calls.proofs.Typed.{TypedReply}
@@ -76,6 +79,16 @@ module _ (s : List ℕ) (call : ℕ) (t : Tracker) where
   pub ask-enter : (call ≡ 4 → ⊥) → (call ≡ 2 → ⊥) → enterAnswer t (flag (word s 968)) (idsIn s) (kindsIn s) ≡ askIn s call t
   ask-enter f g = rw (ne-eqb call 4 f, ne-eqb call 2 g)
 
+  module _ {k : ConfState} {n : ℕ} (z : t ≡ stateAt s 1) (y : k ≡ confStateAt s 2266) (x : n ≡ word s 969) where
+    steps-read : stepByStepOf t k n ≡ stepByStepOf (stateAt s 1) (confStateAt s 2266) (word s 969)
+    steps-read = λ i. stepByStepOf (z i) (y i) (x i)
+
+    pub restored-whole : call ≡ 7 → {u : Tracker} {o r : Outcome} → u ≡ stateAt s 1 → o ≡ stepByStepOf t k n → r ≡ wholeOf u o → r ≡ restoredIn s call
+    restored-whole e v p q = made-whole (stateAt s 1) (confStateAt s 2266) (word s 969) (p ∙ steps-read) (q ∙ rw v) ∙ rw (eq-eqb call 7 e)
+
+    pub restored-steps : (call ≡ 7 → ⊥) → stepByStepOf t k n ≡ restoredIn s call
+    restored-steps f = steps-read ∙ rw (ne-eqb call 7 f)
+
 -- ** Every call
 
 up : (k w : ℕ) → k ≤ w → (w ≡ k → ⊥) → suc k ≤ w
@@ -123,9 +136,21 @@ module _ (s : List ℕ) where
       unfolding replyTo
       reply-write e = rw (ne-eqb (word s 0) 0 n0, ne-eqb (word s 0) 1 (λ z. omega arith), ne-eqb (word s 0) 2 (λ z. omega arith), ne-eqb (word s 0) 3 (λ z. omega arith), ne-eqb (word s 0) 4 (λ z. omega arith), ne-eqb (word s 0) 5 (λ z. omega arith), eq-eqb (word s 0) 6 e)
 
-      pub reply-restore : (word s 0 ≡ 5 → ⊥) → (word s 0 ≡ 6 → ⊥) → fromOutcome (restoreOf (stateAt s 1) (confStateAt s 2266) (word s 969)) ≡ replyTo s
+      pub reply-restored : (word s 0 ≡ 5 → ⊥) → (word s 0 ≡ 6 → ⊥) → fromOutcome (restoredIn s (word s 0)) ≡ replyTo s
       unfolding replyTo
-      reply-restore f g = rw (ne-eqb (word s 0) 0 n0, ne-eqb (word s 0) 1 (λ z. omega arith), ne-eqb (word s 0) 2 (λ z. omega arith), ne-eqb (word s 0) 3 (λ z. omega arith), ne-eqb (word s 0) 4 (λ z. omega arith), ne-eqb (word s 0) 5 f, ne-eqb (word s 0) 6 g)
+      reply-restored f g =
+          rw (ne-eqb (word s 0) 0 n0, ne-eqb (word s 0) 1 (λ z. omega arith), ne-eqb (word s 0) 2 (λ z. omega arith), ne-eqb (word s 0) 3 (λ z. omega arith), ne-eqb (word s 0) 4 (λ z. omega arith), ne-eqb (word s 0) 5 f, ne-eqb (word s 0) 6 g)
+          (go (eqb (word s 0) 7))
+        where
+          whole : Outcome
+          whole = restoreOf (stateAt s 1) (confStateAt s 2266) (word s 969)
+
+          steps : Outcome
+          steps = stepByStepOf (stateAt s 1) (confStateAt s 2266) (word s 969)
+
+          go : (b : Bool) → fromOutcome (cond b whole steps) ≡ cond b (fromOutcome whole) (fromOutcome steps)
+          go true = refl
+          go false = refl
 
 -- ** The entry
 
@@ -144,18 +169,18 @@ module _ (s out : List ℕ) where
     call-room h = refused 1 (rw (eq-eqb (length s) 20216 e, lt-ltb (length out) 13960 h))
 
     module _ (room : 13960 ≤ length out) where
-      pub call-unknown : 7 < word s 0 → (3 ≡ callAnswer s (length out)) × (out ≡ callLeaves s out)
+      pub call-unknown : 8 < word s 0 → (3 ≡ callAnswer s (length out)) × (out ≡ callLeaves s out)
       unfolding callAnswer
-      call-unknown h = refused 2 (rw (eq-eqb (length s) 20216 e, le-ltb (length out) 13960 room, lt-ltb 7 (word s 0) h))
+      call-unknown h = refused 2 (rw (eq-eqb (length s) 20216 e, le-ltb (length out) 13960 room, lt-ltb 8 (word s 0) h))
 
-      module _ (known : word s 0 ≤ 7) where
+      module _ (known : word s 0 ≤ 8) where
         pub call-held : holds s ≡ false → (4 ≡ callAnswer s (length out)) × (out ≡ callLeaves s out)
         unfolding callAnswer
-        call-held h = refused 3 (rw (eq-eqb (length s) 20216 e, le-ltb (length out) 13960 room, le-ltb 7 (word s 0) known, h))
+        call-held h = refused 3 (rw (eq-eqb (length s) 20216 e, le-ltb (length out) 13960 room, le-ltb 8 (word s 0) known, h))
 
         accepted : holds s ≡ true → callAnswer s (length out) ≡ 0
         unfolding callAnswer
-        accepted h = rw (eq-eqb (length s) 20216 e, le-ltb (length out) 13960 room, le-ltb 7 (word s 0) known, h)
+        accepted h = rw (eq-eqb (length s) 20216 e, le-ltb (length out) 13960 room, le-ltb 8 (word s 0) known, h)
 
         pub call-done : holds s ≡ true → length out ≤ last → (r : Reply) → TypedReply r → r ≡ replyTo s → {new : List ℕ} {n : ℕ} → Put out 0 (allBytes (replyWords r)) new n → (0 ≡ callAnswer s (length out)) × (new ≡ callLeaves s out)
         unfolding callLeaves

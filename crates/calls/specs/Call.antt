@@ -18,7 +18,7 @@ use Rattle.tracker.specs.declared.Written.{Written}
 use Rattle.invariants.specs.Check.{checkOf, inOrderOf}
 use Rattle.changer.specs.declared.Answer.{Answer}
 use Rattle.changer.specs.Calls.{simpleAnswer, enterAnswer, leaveAnswer}
-use Rattle.restore.specs.Restore.{restoreOf}
+use Rattle.restore.specs.Restore.{restoreOf, stepByStepOf}
 use Rattle.calls.specs.Layout.{word, flag, confAt, stateAt, logAt, confStateAt, changeListAt, holds}
 use Rattle.calls.specs.Reply.{allBytes, flagWord, stateWords, logWords, confStateWords}
 use Rattle.calls.specs.declared.Reply.{Reply}
@@ -64,6 +64,10 @@ askIn s call t =
     cond (eqb call 4) (leaveAnswer t)
     (cond (eqb call 2) (simpleAnswer t (idsIn s) (kindsIn s)) (enterAnswer t (flag (word s 968)) (idsIn s) (kindsIn s)))
 
+-- 7 restore, 8 restore_step_by_step
+abbrev pub restoredIn : List ℕ → ℕ → Outcome
+restoredIn s call = cond (eqb call 7) (restoreOf (stateAt s 1) (confStateAt s 2266) (word s 969)) (stepByStepOf (stateAt s 1) (confStateAt s 2266) (word s 969))
+
 unfoldable pub replyTo : List ℕ → Reply
 replyTo s =
     cond (eqb (word s 0) 0) (fromVerdict (stateAt s 1) (checkOf (stateAt s 1)))
@@ -73,7 +77,8 @@ replyTo s =
     (cond (eqb (word s 0) 4) (fromAnswer (stateAt s 1) (leaveAnswer (stateAt s 1)))
     (cond (eqb (word s 0) 5) (fromOutcome (applyOf (stateAt s 1) (confAt s 1492) (logAt s 1753) (word s 969)))
     (cond (eqb (word s 0) 6) (fromWritten (stateAt s 1) (writtenOf (stateAt s 1)))
-    (fromOutcome (restoreOf (stateAt s 1) (confStateAt s 2266) (word s 969)))))))))
+    (cond (eqb (word s 0) 7) (fromOutcome (restoreOf (stateAt s 1) (confStateAt s 2266) (word s 969)))
+    (fromOutcome (stepByStepOf (stateAt s 1) (confStateAt s 2266) (word s 969))))))))))
 
 -- ** What the entry returns and leaves
 
@@ -85,7 +90,7 @@ unfoldable pub callAnswer : List ℕ → ℕ → ℕ
 callAnswer s room =
     cond (not (eqb (length s) 20216)) 1
     (cond (ltb room 13960) 2
-    (cond (ltb 7 (word s 0)) 3
+    (cond (ltb 8 (word s 0)) 3
     (cond (not (holds s)) 4 0)))
 
 -- the reply at the front, every byte after it kept; as it was where the answer is not 0

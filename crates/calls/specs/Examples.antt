@@ -67,7 +67,7 @@ pub short-reply : callAnswer (replicate 20216 0) 13959 ≡ 2
 unfolding callAnswer
 short-reply = refl
 
--- a request of the right length whose call is 8: 3
-pub unknown-call : callAnswer (8 ∷ replicate 20215 0) 13960 ≡ 3
+-- a request of the right length whose call is 9: 3
+pub unknown-call : callAnswer (9 ∷ replicate 20215 0) 13960 ≡ 3
 unfolding callAnswer number
 unknown-call = refl

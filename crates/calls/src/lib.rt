@@ -11,7 +11,7 @@ ghost use mathlib.Core.Path.{_≡_};
 ghost use Prim.Native.Nat.{min};
 ghost use lib.ListN.{length};
 ghost use Rattle.tracker.specs.ConfStates.{writtenOf};
-ghost use Rattle.calls.specs.Call.{fromVerdict, fromAnswer, fromOutcome, fromWritten, reply as replyOf, noLog, noLists, askIn, replyTo, callAnswer, callLeaves};
+ghost use Rattle.calls.specs.Call.{fromVerdict, fromAnswer, fromOutcome, fromWritten, reply as replyOf, noLog, noLists, askIn, restoredIn, replyTo, callAnswer, callLeaves};
 
 pub mod read; // a request
 pub mod write; // a reply
@@ -39,7 +39,7 @@ pub extern "C" fn dimecandle_call(request: &[u8], reply: &mut [u8]) -> u64
     if reply.len() < 13960 {
         return 2;
     }
-    if 7 < read::word(request, 0) {
+    if 8 < read::word(request, 0) {
         return 3;
     }
     if !read::holds(request) {
@@ -69,7 +69,7 @@ fn reply_to(s: &[u8]) -> Reply
     if call == 6 {
         return from_written(t);
     }
-    from_outcome(restore::restore(t, read::conf_state(s), read::word(s, 969)))
+    from_outcome(restored(s, call))
 }
 
 // 2 simple, 3 enter_joint, 4 leave_joint.
@@ -88,6 +88,17 @@ fn ask(s: &[u8], call: u64, t: Tracker) -> Answer
         return changer::simple(t, &ids[..m], &kinds[..n]);
     }
     changer::enter_joint(t, read::word(s, 968) == 1, &ids[..m], &kinds[..n])
+}
+
+// 7 restore, 8 restore_step_by_step. One call of the latter serves both, and the state given is read again rather than kept: that saves stack.
+fn restored(s: &[u8], call: u64) -> Outcome
+    ensures { λ r. ⌜ r ≡ restoredIn (now (s .entry)) call ⌝ }
+{
+    let o = restore::restore_step_by_step(read::state(s), read::conf_state(s), read::word(s, 969));
+    if call == 7 {
+        return restore::whole(read::state(s), o);
+    }
+    o
 }
 
 fn least(n: usize) -> usize

@@ -6,9 +6,9 @@ use mathlib.Core.Bool.{Bool, true, false, cond}
 use mathlib.Core.List.{List, [], _∷_}
 use Rattle.rules.specs.State.{State, formed}
 use Rattle.rules.specs.Answers as R
-use Rattle.rules.specs.Answers.{Verdict, fault, ok}
+use Rattle.rules.specs.Answers.{Verdict, fault, ok, settle}
 use Rattle.rules.specs.Calls.{enterJoint, leaveJoint, simple}
-use Rattle.rules.specs.Restore.{applyAnswer, restorable, restoreSteps}
+use Rattle.rules.specs.Restore.{applyAnswer, restorable, restore, restoreStepByStep, restoreSteps}
 use Rattle.rules.specs.Sequences as rules
 use Rattle.rules.specs.Sequences.{Deed, ifOk}
 use Rattle.rules.proofs.Demand3.{restore-short}
@@ -20,20 +20,20 @@ use Rattle.tracker.specs.declared.ConfState.{ConfState}
 use Rattle.tracker.specs.declared.Outcome.{Outcome}
 use Rattle.tracker.specs.declared.Tracker.{Tracker}
 use Rattle.tracker.proofs.Bridge.{state-back, tracker-formed, tracker-well}
-use Rattle.restore.specs.Restore.{restoreOf, tooLong}
+use Rattle.restore.specs.Restore.{restoreOf, stepByStepOf, tooLong}
 use Rattle.restore.proofs.Marked.{Marked}
 use Rattle.restore.proofs.Applied.{Fits, applied-formed, applied-marked, enter-applied, enter-fits, leave-applied, leave-fits, simple-applied, simple-fits}
-use Rattle.restore.proofs.Steps.{run-left}
-use Rattle.demands.specs.Sequences.{Call, afterCalls, deeds, deedsOf, enterCall, ifAccepted, leaveCall, perform, restoreCall, simpleCall}
-use Rattle.demands.proofs.Restorable.{lists-short, restore-runs, restored, short-restorable}
+use Rattle.restore.proofs.Steps.{Left, run-left}
+use Rattle.demands.specs.Sequences.{Call, afterCalls, deeds, deedsOf, enterCall, ifAccepted, leaveCall, perform, restoreCall, simpleCall, stepByStepCall}
+use Rattle.demands.proofs.Restorable.{lists-short, restored, short-restorable, stepped, steps-run}
 
 -- ** One call
 
 -- the call c on t is the rules' call r on its state
-record Is (t : Tracker) (c : Call) (r : rules.Call) : Type 0 where
-  outcome : perform t c ≡ outcomeOf (rules.perform (stateOf t) r)
-  good : formed (rules.perform (stateOf t) r .state) ≡ true
-  same : deedsOf t c ≡ rules.deedsOf (stateOf t) r
+pub record Is (t : Tracker) (c : Call) (r : rules.Call) : Type 0 where
+  pub outcome : perform t c ≡ outcomeOf (rules.perform (stateOf t) r)
+  pub good : formed (rules.perform (stateOf t) r .state) ≡ true
+  pub same : deedsOf t c ≡ rules.deedsOf (stateOf t) r
 
 -- what counts as accepted
 accepts : (o : Outcome) (q : R.Outcome) → o ≡ outcomeOf q → Marked (q .verdict) → (ds : List Deed) → ifAccepted o ds ≡ ifOk (q .verdict) ds
@@ -75,20 +75,42 @@ module _ (t : Tracker) (w : trackerWellFormed t ≡ true) where
       let e : perform t (leaveCall n) ≡ outcomeOf (applyAnswer s n a) = leave-applied t w n in
       record { outcome = e; good = applied-formed s n f a h; same = accepts _ (applyAnswer s n a) e (applied-marked s n a h) _ }
 
-  -- a restore whose lists are too long leaves the tracker, and nothing was accepted
-  long-left : (cs : ConfState) (n : ℕ) → tooLong cs ≡ true → (perform t (restoreCall cs n) .tracker ≡ t) × (deedsOf t (restoreCall cs n) ≡ [])
-  unfolding perform deedsOf restoreOf
-  long-left cs n h = rw (w, h) (refl, refl)
+  -- ** restore, restore_step_by_step
 
-  restore-is : (cs : ConfState) (n : ℕ) → tooLong cs ≡ false → Is t (restoreCall cs n) (rules.restoreCall (listsOf cs) n)
-  unfolding perform rules.perform deedsOf rules.deedsOf
-  restore-is cs n h =
-      let k : restorable s (listsOf cs) ≡ ok = short-restorable s f (listsOf cs) (lists-short cs h) in
-      record {
-        outcome = restored t w cs h n;
-        good = rw (restore-runs s f (listsOf cs) (lists-short cs h) n) (run-left n (restoreSteps (listsOf cs)) (restore-short s (listsOf cs) k) s f .good);
-        same = rw (w, h, k);
-      }
+  module _ (cs : ConfState) (n : ℕ) where
+    -- lists that are too long leave the tracker, and nothing was accepted
+    long-left : tooLong cs ≡ true → (perform t (restoreCall cs n) .tracker ≡ t) × (deedsOf t (restoreCall cs n) ≡ [])
+    unfolding perform deedsOf restoreOf
+    long-left h = rw (w, h) (refl, refl)
+
+    long-stepped : tooLong cs ≡ true → (perform t (stepByStepCall cs n) .tracker ≡ t) × (deedsOf t (stepByStepCall cs n) ≡ [])
+    unfolding perform deedsOf stepByStepOf
+    long-stepped h = rw (w, h) (refl, refl)
+
+    module _ (h : tooLong cs ≡ false) where
+      passed : restorable s (listsOf cs) ≡ ok
+      passed = short-restorable s f (listsOf cs) (lists-short cs h)
+
+      pub steps-left : Left (restoreStepByStep s (listsOf cs) n)
+      steps-left = rw (steps-run s f (listsOf cs) (lists-short cs h) n) (run-left n (restoreSteps (listsOf cs)) (restore-short s (listsOf cs) passed) s f)
+
+      whole-left : Left (restore s (listsOf cs) n)
+      unfolding restore
+      whole-left = go (restoreStepByStep s (listsOf cs) n .verdict) (steps-left .marked)
+        where
+          go : (v : Verdict) → Marked v → Left (settle v s (restoreStepByStep s (listsOf cs) n .state))
+          go ok m = record { good = steps-left .good; marked = m }
+          go (fault k x) m = record { good = f; marked = m }
+
+      restore-is : Is t (restoreCall cs n) (rules.restoreCall (listsOf cs) n)
+      unfolding perform rules.perform deedsOf rules.deedsOf
+      restore-is =
+          let e : perform t (restoreCall cs n) ≡ outcomeOf (restore s (listsOf cs) n) = restored t w cs h n in
+          record { outcome = e; good = whole-left .good; same = accepts _ (restore s (listsOf cs) n) e (whole-left .marked) _ }
+
+      pub steps-are : Is t (stepByStepCall cs n) (rules.stepByStepCall (listsOf cs) n)
+      unfolding perform rules.perform deedsOf rules.deedsOf
+      steps-are = record { outcome = stepped t w cs h n; good = steps-left .good; same = rw (w, h, passed) }
 
 -- ** A sequence
 
@@ -98,6 +120,7 @@ plainly (simpleCall ids kinds n) rest = rules.simpleCall ids kinds n ∷ rest
 plainly (enterCall auto ids kinds n) rest = rules.enterCall auto ids kinds n ∷ rest
 plainly (leaveCall n) rest = rules.leaveCall n ∷ rest
 plainly (restoreCall cs n) rest = cond (tooLong cs) rest (rules.restoreCall (listsOf cs) n ∷ rest)
+plainly (stepByStepCall cs n) rest = cond (tooLong cs) rest (rules.stepByStepCall (listsOf cs) n ∷ rest)
 
 unfoldable pub plain : List Call → List rules.Call
 plain [] = []
@@ -133,15 +156,20 @@ module _ (t : Tracker) (c : Call) (cs : List Call) (rs : List rules.Call) where
         good = ap trackerWellFormed e ∙ rest .good;
       }
 
+  -- none where its lists are too long, else one of the rules'
+  perhaps : (k : ConfState) (r : rules.Call) → (tooLong k ≡ true → (perform t c .tracker ≡ t) × (deedsOf t c ≡ [])) → (tooLong k ≡ false → Is t c r)
+      → trackerWellFormed t ≡ true → ((u : Tracker) → trackerWellFormed u ≡ true → Carried u cs rs) → Carried t (c ∷ cs) (cond (tooLong k) rs (r ∷ rs))
+  perhaps k r long short w rest = go (tooLong k) refl
+    where
+      go : (b : Bool) → tooLong k ≡ b → Carried t (c ∷ cs) (cond b rs (r ∷ rs))
+      go true e = none (long e) (rest t w)
+      go false e = more r (short e) (rest _)
+
 pub carried : (cs : List Call) (t : Tracker) → trackerWellFormed t ≡ true → Carried t cs (plain cs)
 unfolding plain afterCalls rules.afterCalls deeds rules.deeds
 carried [] t w = record { state = refl; deeds = refl; good = w }
 carried (simpleCall ids kinds n ∷ cs) t w = more t (simpleCall ids kinds n) cs (plain cs) (rules.simpleCall ids kinds n) (simple-is t w ids kinds n) (carried cs _)
 carried (enterCall auto ids kinds n ∷ cs) t w = more t (enterCall auto ids kinds n) cs (plain cs) (rules.enterCall auto ids kinds n) (enter-is t w auto ids kinds n) (carried cs _)
 carried (leaveCall n ∷ cs) t w = more t (leaveCall n) cs (plain cs) (rules.leaveCall n) (leave-is t w n) (carried cs _)
-carried (restoreCall k n ∷ cs) t w = go (tooLong k) refl (carried cs)
-  where
-    go : (b : Bool) → tooLong k ≡ b → ((u : Tracker) → trackerWellFormed u ≡ true → Carried u cs (plain cs))
-        → Carried t (restoreCall k n ∷ cs) (cond b (plain cs) (rules.restoreCall (listsOf k) n ∷ plain cs))
-    go true e ih = none t (restoreCall k n) cs (plain cs) (long-left t w k n e) (ih t w)
-    go false e ih = more t (restoreCall k n) cs (plain cs) (rules.restoreCall (listsOf k) n) (restore-is t w k n e) (ih _)
+carried (restoreCall k n ∷ cs) t w = perhaps t (restoreCall k n) cs (plain cs) k (rules.restoreCall (listsOf k) n) (long-left t w k n) (restore-is t w k n) w (carried cs)
+carried (stepByStepCall k n ∷ cs) t w = perhaps t (stepByStepCall k n) cs (plain cs) k (rules.stepByStepCall (listsOf k) n) (long-stepped t w k n) (steps-are t w k n) w (carried cs)

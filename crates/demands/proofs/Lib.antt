@@ -3,11 +3,12 @@ pub mod Carried
 pub mod Boxes
 pub mod Counts
 pub mod Others
-pub mod RoundTrip
-pub mod Ordered
 pub mod Late
 pub mod Stopped
 pub mod Refused
+pub mod Whole
+pub mod RoundTrip
+pub mod Ordered
 pub mod Walked
 pub mod Settled
 pub mod Lent

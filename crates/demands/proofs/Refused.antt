@@ -1,5 +1,5 @@
--- What a refused call leaves: the configuration given with an empty log, the tracker given, no lists; and what a refused restore leaves.
--- Assumes nothing.
+-- What a refused call leaves: the configuration given with an empty log, the tracker given, no lists; and what a refused restore leaves,
+-- whole and step by step. Assumes nothing.
 use Prim.Native.Nat.{ℕ, _≤_, _<_}
 use mathlib.Core.Path.{_≡_, refl, ap, _∙_, sym}
 use mathlib.Core.Bool.{Bool, true, false, _&&_, cond, true≢false}
@@ -15,7 +15,7 @@ use Rattle.rules.specs.Restore.{Step, attempt, restoreSteps, run}
 use Rattle.rules.proofs.Demand3.{restore-short}
 use Rattle.rules.proofs.Numbers.{Numbered}
 use Rattle.rules.proofs.Sets.{and-left}
-use Rattle.tracker.specs.Apply.{applyOf, numberOf, outcomeOf}
+use Rattle.tracker.specs.Apply.{applyOf, numberOf, outcomeOf, refusedOf}
 use Rattle.tracker.specs.Bridge.{confOf, confStateOf, listsOf, logOf, stateOf, trackerOf}
 use Rattle.tracker.specs.ConfStates.{writtenOf}
 use Rattle.tracker.specs.Form.{confWellFormed, logWellFormed, trackerWellFormed}
@@ -27,12 +27,13 @@ use Rattle.tracker.specs.declared.Tracker.{Tracker}
 use Rattle.tracker.proofs.Bridge.{state-back, tracker-formed, unit-tracker}
 use Rattle.changer.specs.Calls.{answerOf, ifFormed}
 use Rattle.changer.specs.declared.Answer.{Answer}
-use Rattle.restore.specs.Restore.{appliedTo, restoreOf, tooLong}
+use Rattle.restore.specs.Restore.{appliedTo, restoreOf, stepByStepOf, tooLong, wholeOf}
 use Rattle.restore.proofs.Steps.{run-left}
+use Rattle.restore.proofs.Restored.{restore-whole}
 use Rattle.demands.specs.Demands.{AnswerUntouched, StateUntouched}
 use Rattle.demands.specs.Statements.{Stays}
 use Rattle.demands.proofs.Late.{Late, late-run}
-use Rattle.demands.proofs.Restorable.{lists-short, restored-runs, short-restorable}
+use Rattle.demands.proofs.Restorable.{lists-short, short-restorable, stepped-runs}
 use Rattle.demands.proofs.Stopped.{Stopped, apply-left, run-stops}
 
 late-few : (n : ℕ) → ltb 3 n ≡ true → n ≤ 2 → ⊥
@@ -94,9 +95,20 @@ module _ (t : Tracker) where
       go true w = absurd (true≢false (rw (w, tracker-formed t w) at h))
       go false w = rw w
 
-  -- ** restore
+  -- ** restore, restore_step_by_step
+
+  pub whole-untouched : (o : Outcome) → StateUntouched t (wholeOf t o)
+  unfolding wholeOf
+  whole-untouched o = go (eqb (o .number) 0) refl
+    where
+      go : (b : Bool) → eqb (o .number) 0 ≡ b → StateUntouched t (cond b o (refusedOf t (o .number) (o .id)))
+      go true e h = absurd (true≢false (sym e ∙ h))
+      go false e h = refl
 
   module _ (cs : ConfState) (n : ℕ) where
+    pub restore-untouched : StateUntouched t (restoreOf t cs n)
+    restore-untouched = rw (restore-whole t cs n) (whole-untouched (stepByStepOf t cs n))
+
     abbrev ps : List Step
     ps = restoreSteps (listsOf cs)
 
@@ -116,29 +128,29 @@ module _ (t : Tracker) where
           late-run n ps (restore-short (stateOf t) (listsOf cs) (short-restorable (stateOf t) f (listsOf cs) (lists-short cs h))) (stateOf t) f
 
     -- 1 for the tracker, 2 for the lists, or a run
-    pub restore-ways : (P : Outcome → Type 0) → P (record { number = 1; id = 0; tracker = t }) → P (record { number = 2; id = 0; tracker = t })
-        → (trackerWellFormed t ≡ true → tooLong cs ≡ false → P (outcomeOf o)) → P (restoreOf t cs n)
-    unfolding restoreOf
-    restore-ways P one two runs = go (trackerWellFormed t) (tooLong cs) refl refl
+    pub steps-ways : (P : Outcome → Type 0) → P (record { number = 1; id = 0; tracker = t }) → P (record { number = 2; id = 0; tracker = t })
+        → (trackerWellFormed t ≡ true → tooLong cs ≡ false → P (outcomeOf o)) → P (stepByStepOf t cs n)
+    unfolding stepByStepOf
+    steps-ways P one two runs = go (trackerWellFormed t) (tooLong cs) refl refl
       where
-        go : (a b : Bool) → trackerWellFormed t ≡ a → tooLong cs ≡ b → P (restoreOf t cs n)
+        go : (a b : Bool) → trackerWellFormed t ≡ a → tooLong cs ≡ b → P (stepByStepOf t cs n)
         go true true w h = rw (w, h) two
-        go true false w h = rw (restored-runs t w cs h n) (runs w h)
+        go true false w h = rw (stepped-runs t w cs h n) (runs w h)
         go false b w h = rw w one
 
-    pub restore-untouched : restoreOf t cs n .number ≤ 2 → StateUntouched t (restoreOf t cs n)
+    pub steps-untouched : stepByStepOf t cs n .number ≤ 2 → StateUntouched t (stepByStepOf t cs n)
     unfolding Numbered
-    restore-untouched = restore-ways (λ r. r .number ≤ 2 → StateUntouched t r) (λ l h. refl) (λ l h. refl) (λ w h. few (o .verdict) (run-late w h))
+    steps-untouched = steps-ways (λ r. r .number ≤ 2 → StateUntouched t r) (λ l h. refl) (λ l h. refl) (λ w h. few (o .verdict) (run-late w h))
       where
         few : (v : Verdict) → Late v → outcomeOf (record { verdict = v; state = o .state }) .number ≤ 2 → StateUntouched t (outcomeOf (record { verdict = v; state = o .state }))
         few ok m l h = absurd (true≢false h)
         few (fault k x) m l h = absurd (late-few k m l)
 
     -- a number over 2 is a step's
-    stays-run : trackerWellFormed t ≡ true → tooLong cs ≡ false → restoreOf t cs n ≡ outcomeOf o → 2 < outcomeOf o .number → Stays t cs n
+    stays-run : trackerWellFormed t ≡ true → tooLong cs ≡ false → stepByStepOf t cs n ≡ outcomeOf o → 2 < outcomeOf o .number → Stays t cs n
     stays-run w h e l =
         let p : Stopped n (stateOf t) ps o = run-stops n ps (stateOf t) (faulty (o .verdict) l) in
-        let u : restoreOf t cs n .tracker ≡ trackerOf (o .state) = ap (λ (r : Outcome). r .tracker) e in
+        let u : stepByStepOf t cs n .tracker ≡ trackerOf (o .state) = ap (λ (r : Outcome). r .tracker) e in
         record {
           before = p .before;
           step = p .step;
@@ -148,5 +160,5 @@ module _ (t : Tracker) where
           refused = ap (λ (z : State). outcomeOf (attempt n z (p .step))) (ap stateOf u ∙ state-back (o .state) (run-formed w h)) ∙ ap outcomeOf (p .refused) ∙ sym e;
         }
 
-    pub restore-stays : 2 < restoreOf t cs n .number → Stays t cs n
-    restore-stays = restore-ways (λ r. restoreOf t cs n ≡ r → 2 < r .number → Stays t cs n) (λ e l. absurd (omega arith)) (λ e l. absurd (omega arith)) stays-run refl
+    pub steps-stay : 2 < stepByStepOf t cs n .number → Stays t cs n
+    steps-stay = steps-ways (λ r. stepByStepOf t cs n ≡ r → 2 < r .number → Stays t cs n) (λ e l. absurd (omega arith)) (λ e l. absurd (omega arith)) stays-run refl

@@ -1,4 +1,4 @@
--- A restore of a well-formed tracker whose lists are not too long is the run of its steps. Assumes nothing.
+-- A restore of a well-formed tracker whose lists are not too long is the rules', and step by step the run of its steps. Assumes nothing.
 use Prim.Native.Nat.{ℕ, _≤_}
 use mathlib.Core.Path.{_≡_, ap, _∙_}
 use mathlib.Core.Bool.{Bool, true, false, _||_}
@@ -8,7 +8,7 @@ use lib.Dec.{ltb}
 use lib.ListN.{length, length-take}
 use Rattle.rules.specs.State.{ConfState, State, formed}
 use Rattle.rules.specs.Answers.{ok}
-use Rattle.rules.specs.Restore.{restorable, restore, restoreSteps, run}
+use Rattle.rules.specs.Restore.{restorable, restore, restoreStepByStep, restoreSteps, run}
 use Rattle.rules.proofs.Sets.{or-left, or-right}
 use Rattle.tracker.specs.Apply.{outcomeOf}
 use Rattle.tracker.specs.Bridge.{entriesIn, listsOf, stateOf}
@@ -17,7 +17,7 @@ use Rattle.tracker.specs.declared.ConfState as structs
 use Rattle.tracker.specs.declared.IdList.{IdList}
 use Rattle.tracker.specs.declared.Tracker.{Tracker}
 use Rattle.tracker.proofs.Bridge.{tracker-formed}
-use Rattle.restore.specs.Restore.{restoreOf, tooLong}
+use Rattle.restore.specs.Restore.{restoreOf, stepByStepOf, tooLong}
 
 -- ** The rules
 
@@ -32,9 +32,9 @@ pub short-restorable : (s : State) → formed s ≡ true → (k : ConfState) →
 unfolding restorable
 short-restorable s f k h = rw (f, le-leb _ 64 (h .voters), le-leb _ 64 (h .learners), le-leb _ 64 (h .outgoing), le-leb _ 64 (h .staged))
 
-pub restore-runs : (s : State) → formed s ≡ true → (k : ConfState) → Short k → (n : ℕ) → restore s k n ≡ run n s (restoreSteps k)
-unfolding restore
-restore-runs s f k h n = rw (short-restorable s f k h)
+pub steps-run : (s : State) → formed s ≡ true → (k : ConfState) → Short k → (n : ℕ) → restoreStepByStep s k n ≡ run n s (restoreSteps k)
+unfolding restoreStepByStep
+steps-run s f k h n = rw (short-restorable s f k h)
 
 -- ** The structs
 
@@ -62,5 +62,9 @@ module _ (t : Tracker) (w : trackerWellFormed t ≡ true) (cs : structs.ConfStat
   unfolding restoreOf
   restored = rw (w, h)
 
-  pub restored-runs : restoreOf t cs n ≡ outcomeOf (run n (stateOf t) (restoreSteps (listsOf cs)))
-  restored-runs = restored ∙ ap outcomeOf (restore-runs (stateOf t) (tracker-formed t w) (listsOf cs) (lists-short cs h) n)
+  pub stepped : stepByStepOf t cs n ≡ outcomeOf (restoreStepByStep (stateOf t) (listsOf cs) n)
+  unfolding stepByStepOf
+  stepped = rw (w, h)
+
+  pub stepped-runs : stepByStepOf t cs n ≡ outcomeOf (run n (stateOf t) (restoreSteps (listsOf cs)))
+  stepped-runs = stepped ∙ ap outcomeOf (steps-run (stateOf t) (tracker-formed t w) (listsOf cs) (lists-short cs h) n)

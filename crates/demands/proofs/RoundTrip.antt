@@ -30,6 +30,7 @@ use Rattle.demands.specs.Sequences.{Call, afterCalls}
 use Rattle.demands.specs.Demands.{ComesBack}
 use Rattle.demands.proofs.Carried.{Carried, carried, plain}
 use Rattle.demands.proofs.Restorable.{Short, restored}
+use Rattle.demands.proofs.Whole.{whole}
 
 -- ** The fresh tracker
 
@@ -84,9 +85,10 @@ module _ (u : Tracker) (w : trackerWellFormed u ≡ true) where
     unfolding recordPlaces
     comes-back b =
         let same : ids (o .state .peers) ≡ held (u .ids) = b .back .tracked ∙ tracked-ids u w in
+        let accepts : restoreOf (trackerOf (fresh l)) (writtenOf u .«conf_state») n .number ≡ 0 = ap (λ (r : Outcome). r .number) restores ∙ ap numberOf (b .back .verdict) in
         record {
           written = ap (λ (r : Written). r .number) writes;
-          accepted = ap (λ (r : Outcome). r .number) restores ∙ ap numberOf (b .back .verdict);
+          accepted = accepts;
           same = ap (λ (r : Outcome). r .tracker .conf) restores ∙ ap configurationOf (b .back .conf) ∙ unit-conf (u .conf) (tracker-parts u w .conf);
           tracked = ap (λ (r : Outcome). r .tracker .ids) restores ∙ ap setOf (b .back .tracked) ∙ roster-set (rostered u w);
           records = λ x h.
@@ -95,6 +97,7 @@ module _ (u : Tracker) (w : trackerWellFormed u ≡ true) where
               ∙ ap (recordOf x) (peers-records (o .state .peers) _)
               ∙ b .back .records x (ap (memb x) same ∙ h);
           inflight = ap (λ (r : Outcome). r .tracker .«max_inflight») restores ∙ b .back .inflight;
+          either-name = sym (whole (trackerOf (fresh l)) (writtenOf u .«conf_state») n .accepted accepts);
         }
 
 -- ** From the fresh tracker

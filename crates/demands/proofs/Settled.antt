@@ -50,6 +50,8 @@ use Rattle.changer.proofs.simple.Reads as changer-simple
 use Rattle.changer.proofs.«enter_joint».Reads as changer-enter-joint
 use Rattle.changer.proofs.«leave_joint».Reads as changer-leave-joint
 use Rattle.restore.proofs.restore.Reads as restore-restore
+use Rattle.restore.proofs.«restore_step_by_step».Reads as restore-restore-step-by-step
+use Rattle.restore.proofs.whole.Reads as restore-whole
 use Rattle.restore.proofs.«apply_answer».Reads as restore-apply-answer
 use Rattle.demands.proofs.Walked.{apply-conf-says, contains-says, view-says}
 
@@ -161,6 +163,8 @@ pub record Calls : Type 0 where
   pub enter-joint : Settles changer-enter-joint.Learnt
   pub leave-joint : Settles changer-leave-joint.Learnt
   pub restore : Settles restore-restore.Learnt
+  pub whole : Settles restore-whole.Learnt
+  pub restore-step-by-step : Settles restore-restore-step-by-step.Learnt
   pub apply-answer : Settles restore-apply-answer.Learnt
 
 pub calls : Calls

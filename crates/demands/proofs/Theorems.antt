@@ -11,25 +11,27 @@ use Rattle.rules.specs.State.{fresh, noConf}
 use Rattle.rules.specs.Calls.{enterJoint, leaveJoint, simple}
 use Rattle.rules.specs.Idle.{enterIdles, simpleIdles}
 use Rattle.tracker.specs.Bridge.{confOf, stateOf, trackerOf}
+use Rattle.tracker.specs.declared.ConfState.{ConfState}
 use Rattle.tracker.specs.declared.Tracker.{Tracker}
 use Rattle.tracker.specs.declared.Verdict.{Verdict}
 use Rattle.invariants.specs.Check.{inOrderOf}
 use Rattle.changer.specs.Calls.{enterAnswer, leaveAnswer, simpleAnswer}
 use Rattle.demands.specs.Sequences.{Call, afterCalls}
-use Rattle.demands.specs.Demands.{CanBeLeft, ComesBack, Counted, Kept}
+use Rattle.demands.specs.Demands.{CanBeLeft, ComesBack, Counted, Kept, Whole}
 use Rattle.demands.specs.Statements.{OthersAlterNeither, RefusedUntouched}
 use Rattle.demands.proofs.Boxes.{kept}
 use Rattle.demands.proofs.Bytes.{call, no-call, replay-no-room, replay-too-long}
 use Rattle.demands.proofs.Counts.{all-counted}
 use Rattle.demands.proofs.Ordered.{can-be-left, empty-back, fresh-leads, order-back}
 use Rattle.demands.proofs.Others.{others}
-use Rattle.demands.proofs.Refused.{applied-untouched, apply-untouched, asked-untouched, restore-stays, restore-untouched, written-nothing}
-use Rattle.demands.proofs.Restorable.{restored-runs}
+use Rattle.demands.proofs.Refused.{applied-untouched, apply-untouched, asked-untouched, restore-untouched, steps-stay, steps-untouched, whole-untouched, written-nothing}
+use Rattle.demands.proofs.Restorable.{stepped-runs}
 use Rattle.demands.proofs.RoundTrip.{reached-back}
+use Rattle.demands.proofs.Whole.{whole}
 use Rattle.demands.proofs.AllSettled.{Settled, all-settled}
 
--- Demand 1: "A refused call gives the number .., with state and lent memory untouched." A restore that a step ends is the exception: the steps
--- accepted before it stay.
+-- Demand 1: "A refused call gives the number .., with state and lent memory untouched." A restore_step_by_step that a step ends is the exception:
+-- the steps accepted before it stay.
 pub refused-untouched : (t : Tracker) → RefusedUntouched t
 unfolding simpleAnswer enterAnswer leaveAnswer
 refused-untouched t =
@@ -42,8 +44,10 @@ refused-untouched t =
       apply-conf = λ c log n v u p q h. q ∙ apply-untouched t c log n (ap (λ (v : Verdict). eqb (v .number) 0) (sym p) ∙ h);
       to-conf-state = written-nothing t;
       restore = restore-untouched t;
-      restore-runs = λ w cs n h. restored-runs t w cs h n;
-      restore-stays = restore-stays t;
+      whole = whole-untouched t;
+      step-by-step = steps-untouched t;
+      step-by-step-runs = λ w cs n h. stepped-runs t w cs h n;
+      step-by-step-stays = steps-stay t;
       too-long = replay-too-long;
       no-room = replay-no-room;
       no-call = no-call;
@@ -69,6 +73,11 @@ others-alter-neither = others
 -- logged nothing".
 pub counted : (t : Tracker) → Counted t
 counted = all-counted
+
+-- Document 02, g): "a refused `restore` now returns the state it was given, with the same number and id"; an accepted one equals the step-by-step one;
+-- "in demand 3 a refused whole restore counts no steps", an accepted one its steps.
+pub restore-is-whole : (t : Tracker) (cs : ConfState) (n : ℕ) → Whole t cs n
+restore-is-whole = whole
 
 -- Document 02, h): "from every joint state in order, leaving is accepted."
 pub joint-can-be-left : (t : Tracker) → inOrderOf t ≡ true → joint (confOf (t .conf)) ≡ true → CanBeLeft t

@@ -11,17 +11,20 @@ use Rattle.rules.specs.State.{fresh, members}
 use Rattle.rules.specs.Table.{placesOf, placesIn}
 use Rattle.rules.specs.Calls.{gone, leaving, removals}
 use Rattle.rules.specs.Boxes.{found, recordOf, replay, events}
+use Rattle.rules.specs.Restore.{restoreSteps}
+use Rattle.rules.specs.Sequences.{inTurn}
 use Rattle.rules.specs.Idle.{enterWorks, simpleWorks}
 use Rattle.idset.specs.Set.{held}
-use Rattle.tracker.specs.Bridge.{changeLogOf, confOf, configurationOf, peersOf, stateOf, trackerOf}
+use Rattle.tracker.specs.Bridge.{changeLogOf, confOf, configurationOf, listsOf, peersOf, stateOf, trackerOf}
 use Rattle.tracker.specs.ConfStates.{writtenOf}
+use Rattle.tracker.specs.declared.ConfState.{ConfState}
 use Rattle.tracker.specs.declared.Tracker.{Tracker}
 use Rattle.tracker.specs.declared.Outcome.{Outcome}
 use Rattle.invariants.specs.Check.{inOrderOf}
 use Rattle.changer.specs.Calls.{enterAnswer, leaveAnswer, simpleAnswer}
 use Rattle.changer.specs.declared.Answer.{Answer}
-use Rattle.restore.specs.Restore.{appliedTo, restoreOf}
-use Rattle.demands.specs.Sequences.{Call, afterCalls, deeds, boxIn}
+use Rattle.restore.specs.Restore.{appliedTo, restoreOf, stepByStepOf}
+use Rattle.demands.specs.Sequences.{Call, afterCalls, deeds, deedsOf, boxIn, restoreCall, stepByStepCall}
 
 -- Demand 3. After the calls cs, made from t: the state is in order; "the tracked boxes are exactly the members"; a box's standing tells in which
 -- sets it is; "each box's standing and record are what a plain replay of the accepted changes naming that box, with each enter and leave, gives".
@@ -32,7 +35,7 @@ pub record Kept (t : Tracker) (cs : List Call) : Type 0 where
   pub boxes : (x : ℕ) → boxIn (afterCalls t cs) x ≡ replay (events (t .«max_inflight») x (deeds t cs)) (boxIn t x)
 
 -- Demand 2's last sentence, of the tracker t: written out, and restored to `Tracker::new(l)` with `next_idx` n, it "comes back the same", every box
--- with a fresh record, `max_inflight` still l.
+-- with a fresh record, `max_inflight` still l; and by either name of restore.
 pub record ComesBack (t : Tracker) (l n : ℕ) : Type 0 where
   pub written : writtenOf t .number ≡ 0
   pub accepted : restoreOf (trackerOf (fresh l)) (writtenOf t .«conf_state») n .number ≡ 0
@@ -41,6 +44,7 @@ pub record ComesBack (t : Tracker) (l n : ℕ) : Type 0 where
   pub records : (x : ℕ) → memb x (held (t .ids)) ≡ true
       → recordOf x (peersOf (held (t .ids)) (restoreOf (trackerOf (fresh l)) (writtenOf t .«conf_state») n .tracker .records)) ≡ found (freshRecord n l)
   pub inflight : restoreOf (trackerOf (fresh l)) (writtenOf t .«conf_state») n .tracker .«max_inflight» ≡ l
+  pub either-name : stepByStepOf (trackerOf (fresh l)) (writtenOf t .«conf_state») n ≡ restoreOf (trackerOf (fresh l)) (writtenOf t .«conf_state») n
 
 -- Demand 1: "A refused call gives the number .., with state and lent memory untouched." Document 02, b): "a refused call gives 0".
 abbrev pub AnswerUntouched : Tracker → Answer → Type 0
@@ -64,3 +68,15 @@ pub record CanBeLeft (t : Tracker) : Type 0 where
   pub answer : leaveAnswer t
       ≡ record { number = 0; id = 0; conf = configurationOf (leaving (confOf (t .conf))); log = changeLogOf (removals (gone (confOf (t .conf)))); idle = 0 }
   pub applied : (n : ℕ) → appliedTo t (leaveAnswer t) n .number ≡ 0
+
+-- Document 02, g), of a restore asked of t: it says what restore_step_by_step says, "the same number and id".
+pub record Whole (t : Tracker) (cs : ConfState) (n : ℕ) : Type 0 where
+  pub number : restoreOf t cs n .number ≡ stepByStepOf t cs n .number
+  pub id : restoreOf t cs n .id ≡ stepByStepOf t cs n .id
+  -- refused, it "returns the state it was given" and "counts no steps"
+  pub refused : eqb (restoreOf t cs n .number) 0 ≡ false → restoreOf t cs n .tracker ≡ t
+  pub no-step : eqb (restoreOf t cs n .number) 0 ≡ false → deedsOf t (restoreCall cs n) ≡ []
+  -- accepted, it is restore_step_by_step, and counts its steps
+  pub accepted : restoreOf t cs n .number ≡ 0 → restoreOf t cs n ≡ stepByStepOf t cs n
+  pub its-steps : restoreOf t cs n .number ≡ 0 → deedsOf t (restoreCall cs n) ≡ inTurn n (restoreSteps (listsOf cs))
+  pub same-steps : restoreOf t cs n .number ≡ 0 → deedsOf t (stepByStepCall cs n) ≡ inTurn n (restoreSteps (listsOf cs))

@@ -19,11 +19,12 @@ use Rattle.tracker.specs.Form.{trackerWellFormed}
 use Rattle.tracker.specs.declared.ChangeLog.{ChangeLog}
 use Rattle.tracker.specs.declared.ConfState.{ConfState}
 use Rattle.tracker.specs.declared.Configuration.{Configuration}
+use Rattle.tracker.specs.declared.Outcome.{Outcome}
 use Rattle.tracker.specs.declared.Tracker.{Tracker}
 use Rattle.tracker.specs.declared.Verdict.{Verdict}
 use Rattle.changer.specs.Calls.{enterAnswer, leaveAnswer, simpleAnswer}
 use Rattle.changer.specs.declared.Answer.{Answer}
-use Rattle.restore.specs.Restore.{appliedTo, restoreOf, stepsOf, tooLong}
+use Rattle.restore.specs.Restore.{appliedTo, restoreOf, stepByStepOf, stepsOf, tooLong, wholeOf}
 use Rattle.listing.specs.Listing.{listing, replayAnswer, replayLeaves}
 use Rattle.calls.specs.Layout.{stateAt, word}
 use Rattle.calls.specs.Call.{callAnswer, callLeaves, replyTo}
@@ -52,15 +53,15 @@ pub record OthersAlterNeither (t : Tracker) (n x : ℕ) : Type 0 where
 
 -- ** Refused calls
 
--- A restore that a step ends: the steps before it were accepted and leave the tracker that is left; the step, asked of that one, is refused
--- with what restore answers.
+-- A restore_step_by_step that a step ends: the steps before it were accepted and leave the tracker that is left; the step, asked of that one, is
+-- refused with what restore_step_by_step answers.
 pub record Stays (t : Tracker) (cs : ConfState) (n : ℕ) : Type 0 where
   pub before : List Step
   pub step : Step
   pub after : List Step
   pub steps : restoreSteps (listsOf cs) ≡ before ++ (step ∷ after)
-  pub stay : stepsOf t n before ≡ record { number = 0; id = 0; tracker = restoreOf t cs n .tracker }
-  pub refused : outcomeOf (attempt n (stateOf (restoreOf t cs n .tracker)) step) ≡ restoreOf t cs n
+  pub stay : stepsOf t n before ≡ record { number = 0; id = 0; tracker = stepByStepOf t cs n .tracker }
+  pub refused : outcomeOf (attempt n (stateOf (stepByStepOf t cs n .tracker)) step) ≡ stepByStepOf t cs n
 
 -- Every public call that can be refused, made of t.
 pub record RefusedUntouched (t : Tracker) : Type 0 where
@@ -76,16 +77,19 @@ pub record RefusedUntouched (t : Tracker) : Type 0 where
       → v ≡ verdictIn (applyOf t c log n) → u ≡ applyOf t c log n .tracker → eqb (v .number) 0 ≡ false → u ≡ t
   -- to_conf_state: "empty lists and a false flag"
   pub to-conf-state : eqb (writtenOf t .number) 0 ≡ false → writtenOf t .«conf_state» ≡ confStateOf noConfState
-  -- restore, refused with 1 or 2
-  pub restore : (cs : ConfState) (n : ℕ) → restoreOf t cs n .number ≤ 2 → StateUntouched t (restoreOf t cs n)
-  -- its exception: past 1 and 2 it is the run of its steps; where one of them is refused, those before it stay
-  pub restore-runs : trackerWellFormed t ≡ true → (cs : ConfState) (n : ℕ) → tooLong cs ≡ false → restoreOf t cs n ≡ outcomeOf (run n (stateOf t) (restoreSteps (listsOf cs)))
-  pub restore-stays : (cs : ConfState) (n : ℕ) → 2 < restoreOf t cs n .number → Stays t cs n
+  -- restore, at whichever step; whole, of any outcome
+  pub restore : (cs : ConfState) (n : ℕ) → StateUntouched t (restoreOf t cs n)
+  pub whole : (o : Outcome) → StateUntouched t (wholeOf t o)
+  -- restore_step_by_step, refused with 1 or 2
+  pub step-by-step : (cs : ConfState) (n : ℕ) → stepByStepOf t cs n .number ≤ 2 → StateUntouched t (stepByStepOf t cs n)
+  -- the exception, of that name only: past 1 and 2 it is the run of its steps; where one of them is refused, those before it stay
+  pub step-by-step-runs : trackerWellFormed t ≡ true → (cs : ConfState) (n : ℕ) → tooLong cs ≡ false → stepByStepOf t cs n ≡ outcomeOf (run n (stateOf t) (restoreSteps (listsOf cs)))
+  pub step-by-step-stays : (cs : ConfState) (n : ℕ) → 2 < stepByStepOf t cs n .number → Stays t cs n
   -- dimecandle_replay, refused with 19 or 20: the lent output is as it was
   pub too-long : (script out : List ℕ) → ltb 65536 (length script) ≡ true → (replayAnswer script (length out) ≡ 2 ^ 32 + 19) × (replayLeaves script out ≡ out)
   pub no-room : (script out : List ℕ) → ltb 65536 (length script) ≡ false → ltb (length out) (length (listing script)) ≡ true
       → (replayAnswer script (length out) ≡ 2 ^ 32 + 20) × (replayLeaves script out ≡ out)
-  -- dimecandle_call: a request that is refused as such leaves the lent reply as it was; a refused call, restore's own excepted, replies the state of the request,
-  -- an empty log and 0
+  -- dimecandle_call: a request that is refused as such leaves the lent reply as it was; a refused call, restore_step_by_step's excepted, replies the state
+  -- of the request, an empty log and 0
   pub no-call : (request reply : List ℕ) → eqb (callAnswer request (length reply)) 0 ≡ false → callLeaves request reply ≡ reply
-  pub call : (request : List ℕ) → ltb (word request 0) 7 ≡ true → eqb (replyTo request .number) 0 ≡ false → (replyTo request .tracker ≡ stateAt request 1) × (replyTo request .log ≡ changeLogOf []) × (replyTo request .idle ≡ 0)
+  pub call : (request : List ℕ) → ltb (word request 0) 8 ≡ true → eqb (replyTo request .number) 0 ≡ false → (replyTo request .tracker ≡ stateAt request 1) × (replyTo request .log ≡ changeLogOf []) × (replyTo request .idle ≡ 0)

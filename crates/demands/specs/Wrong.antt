@@ -16,7 +16,7 @@ use Rattle.rules.specs.Table.{L, OS, Standing, standingIn, table}
 use Rattle.rules.specs.Changes.{change, changes, lastSays, pending}
 use Rattle.rules.specs.Calls.{enterJoint, enterOf, listOf, readable, simple, simpleOf}
 use Rattle.rules.specs.Apply.{applyConf, enrol, room, toConfState, track, untrack}
-use Rattle.rules.specs.Restore.{Step, all, applyAnswer, ask, oneByOne, restorable, restore, restoreSteps, run}
+use Rattle.rules.specs.Restore.{Step, all, applyAnswer, ask, oneByOne, restorable, restore, restoreStepByStep, restoreSteps, run}
 use Rattle.rules.specs.Sequences.{Call, afterCalls, deeds, deedsOf, perform, simpleCall}
 use Rattle.rules.specs.Boxes.{Box, Found, absent, boxOf, entered, events, found, naming, recordOf, replay}
 use Rattle.rules.specs.Rows.{conf, lists, new, of, old, olds}
@@ -120,7 +120,7 @@ asSets cs =
 -- voters (1 0): accepted, voters (1); as a set 0 comes first, and that step has no voter
 pub as-sets : (restore (fresh 256) (lists (1 ∷ 0 ∷ []) [] [] []) 77 ≡ record { verdict = ok; state = of (new 1 ∷ []) (conf (1 ∷ []) [] [] []) })
     × (restore (fresh 256) (asSets (lists (1 ∷ 0 ∷ []) [] [] [])) 77 ≡ record { verdict = fault 17 0; state = fresh 256 })
-unfolding restore run restorable restoreSteps oneByOne all ask simpleOf check each changes change table standingIn lastSays pending applyConf room enrol formed confFormed logFormed memb above ascending insertId insertAll removeId minus ids track untrack
+unfolding restore restoreStepByStep run restorable restoreSteps oneByOne all ask simpleOf check each changes change table standingIn lastSays pending applyConf room enrol formed confFormed logFormed memb above ascending insertId insertAll removeId minus ids track untrack
 as-sets = (refl, refl)
 
 -- ** A restore that takes the learners first: what was written out does not come back
@@ -131,5 +131,5 @@ learnersFirst cs = oneByOne (all addLearner (cs .learners) ++ all addNode (cs .v
 -- voters (1), learners (2), written out and restored to fresh
 pub learners-first : (restore (fresh 256) (toConfState s12 .confState) 77 ≡ record { verdict = ok; state = of (new 1 ∷ new 2 ∷ []) (s12 .conf) })
     × (run 77 (fresh 256) (learnersFirst (toConfState s12 .confState)) ≡ record { verdict = fault 17 0; state = fresh 256 })
-unfolding toConfState restore run restorable restoreSteps oneByOne all ask simpleOf check each changes change table standingIn lastSays pending applyConf room enrol formed confFormed logFormed memb above ascending insertId insertAll removeId minus ids track untrack
+unfolding toConfState restore restoreStepByStep run restorable restoreSteps oneByOne all ask simpleOf check each changes change table standingIn lastSays pending applyConf room enrol formed confFormed logFormed memb above ascending insertId insertAll removeId minus ids track untrack
 learners-first = (refl, refl)

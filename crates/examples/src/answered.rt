@@ -61,7 +61,7 @@ fn say_entry(e: MapChange) {
     say::number(e.id);
 }
 
-// What `restore` answers: the state that it leaves, after the refusal if there is one.
+// What `restore` and `restore_step_by_step` answer: the state that it leaves, after the refusal if there is one.
 pub(crate) fn say_outcome(o: Outcome) {
     if o.number != numbers::ACCEPTED {
         say_refused(o.number, o.id);

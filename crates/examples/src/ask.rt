@@ -8,6 +8,7 @@ use changer::enter_joint;
 use changer::leave_joint;
 use restore::apply_answer;
 use tracker::ConfState;
+use tracker::Outcome;
 use tracker::Tracker;
 
 // The `next_idx` of the records that a call makes.
@@ -39,7 +40,19 @@ fn told(asked: &[u8], t: Tracker, a: Answer) -> Tracker {
 
 // `restore` of the fresh state.
 pub(crate) fn restore(asked: &[u8], cs: ConfState) -> Tracker {
-    let o = restore::restore(fresh(), cs, NEXT_IDX);
+    restored(asked, restore::restore(fresh(), cs, NEXT_IDX))
+}
+
+// `restore_step_by_step` of the fresh state.
+pub(crate) fn restore_step_by_step(asked: &[u8], cs: ConfState) -> Tracker {
+    restored(
+        asked,
+        restore::restore_step_by_step(fresh(), cs, NEXT_IDX),
+    )
+}
+
+// A restore's line; the state that it leaves.
+fn restored(asked: &[u8], o: Outcome) -> Tracker {
     say::words(asked);
     answered::say_outcome(o);
     say::words(b"\n");

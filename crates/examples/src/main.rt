@@ -139,8 +139,12 @@ fn example_11() {
     ask::leave(b"11 leave: ", t);
 }
 
-// Fresh, restore voters (1 2), learners (1 2).
+// Fresh, restore voters (1 2), learners (1 2): step by step, as document 01 has it, and whole (document 02, g).
 fn example_12() {
+    ask::restore_step_by_step(
+        b"12 fresh, restore_step_by_step voters (1 2), learners (1 2): ",
+        conf_state(list(&[1, 2]), list(&[1, 2]), none(), none()),
+    );
     ask::restore(
         b"12 fresh, restore voters (1 2), learners (1 2): ",
         conf_state(list(&[1, 2]), list(&[1, 2]), none(), none()),

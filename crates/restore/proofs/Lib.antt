@@ -5,4 +5,4 @@ pub mod Steps
 pub mod OneByOne
 pub mod Lists
 pub mod Answers
-pub mod Whole
+pub mod Restored

@@ -19,7 +19,7 @@ ghost use Rattle.rules.specs.Restore.{all, enterStep, oneByOne, wanted};
 ghost use Rattle.tracker.specs.Bridge.{entriesIn, listsOf};
 ghost use Rattle.tracker.specs.Form.{trackerWellFormed};
 ghost use Rattle.changer.specs.Calls.{simpleAnswer};
-ghost use Rattle.restore.specs.Restore.{appliedTo, tooLong, stepsOf, stepByStepOf, restoreOf};
+ghost use Rattle.restore.specs.Restore.{appliedTo, wholeOf, tooLong, stepsOf, stepByStepOf, restoreOf};
 ghost use Rattle.restore.specs.Steps.{Appended, Listed, entered, jointSteps};
 
 // A change list: the first `len` of `ids` and of `kinds`.
@@ -34,6 +34,13 @@ pub fn restore(t: Tracker, cs: ConfState, next_idx: u64) -> Outcome
     ensures { λ r. ⌜ r ≡ restoreOf t cs «next_idx» ⌝ }
 {
     let o = restore_step_by_step(t, cs, next_idx);
+    whole(t, o)
+}
+
+// What a restore came to, or the state given under the number and id of its refusal.
+pub fn whole(t: Tracker, o: Outcome) -> Outcome
+    ensures { λ r. ⌜ r ≡ wholeOf t o ⌝ }
+{
     if o.number != numbers::ACCEPTED {
         return refused(t, o.number, o.id);
     }

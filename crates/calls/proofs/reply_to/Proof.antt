@@ -11,10 +11,9 @@ use Rattle.tracker.specs.declared.Outcome.{Outcome}
 use Rattle.tracker.specs.declared.Verdict.{Verdict}
 use Rattle.invariants.specs.Check.{checkOf, inOrderOf}
 use Rattle.changer.specs.declared.Answer.{Answer}
-use Rattle.restore.specs.Restore.{restoreOf}
 use Rattle.calls.specs.Layout.{word}
-use Rattle.calls.specs.Call.{reply, noLog, noLists, fromVerdict, fromAnswer, fromOutcome, fromWritten, askIn}
-use Rattle.calls.proofs.WriteCalls.{reply-check, reply-order, reply-ask, reply-apply, reply-write, reply-restore}
+use Rattle.calls.specs.Call.{reply, noLog, noLists, fromVerdict, fromAnswer, fromOutcome, fromWritten, askIn, restoredIn}
+use Rattle.calls.proofs.WriteCalls.{reply-check, reply-order, reply-ask, reply-apply, reply-write, reply-restored}
 use Rattle.calls.proofs.reply_to.Statement.{statement}
 use Rattle.calls.proofs.reply_to.Tie as tie
 
@@ -105,28 +104,19 @@ returns-5 c =
     let more : 5 ≤ word s 0 = omega (arith, w, c .before .before .before .if3 .left) in
     c .from-written .ensures ∙ ap (λ (u : Tracker). fromWritten u (writtenOf u)) t ∙ reply-write s (λ e. c .before .before .before .before .before .if1 .left (w ∙ e)) more (sym w ∙ c .before .if5 .taken)
 
-conf-state-requires : tie.Need-conf-state-requires
-conf-state-requires c κs = search needs
-
-word-requires-3 : tie.Need-word-requires-3
-word-requires-3 c κs = search needs
-
-restore-requires : tie.Need-restore-requires
-restore-requires c κs = search needs
+restored-requires : tie.Need-restored-requires
+restored-requires c κs = search needs
 
 from-outcome-requires-2 : tie.Need-from-outcome-requires-2
 from-outcome-requires-2 c κs = search needs
 
 returns-6 : tie.Need-returns-6
 returns-6 c =
-    let s = c .before .before .before .before .before .before .before .before .before .before .before .before .args .s .now in
-    let t = c .before .before .before .before .before .before .before .before .before .state .ensures in
-    let w = c .before .before .before .before .before .before .before .before .before .before .word .ensures in
-    let a = c .before .restore .ensures in
-    let f = c .before .before .before .conf-state .ensures in
-    let n = c .before .before .word3 .ensures in
-    let more : 5 ≤ word s 0 = omega (arith, w, c .before .before .before .before .before .before .if3 .left) in
-    c .from-outcome2 .ensures ∙ ap (λ (x : Outcome). fromOutcome x) a ∙ (λ i. fromOutcome (restoreOf (t i) (f i) (n i))) ∙ reply-restore s (λ e. c .before .before .before .before .before .before .before .before .if1 .left (w ∙ e)) more (λ e. c .before .before .before .before .before .if4 .left (w ∙ e)) (λ e. c .before .before .before .before .if5 .left (w ∙ e))
+    let s = c .before .before .before .before .before .before .before .before .before .before .args .s .now in
+    let w = c .before .before .before .before .before .before .before .before .word .ensures in
+    let a = c .before .restored .ensures in
+    let more : 5 ≤ word s 0 = omega (arith, w, c .before .before .before .before .if3 .left) in
+    c .from-outcome2 .ensures ∙ ap (λ (x : Outcome). fromOutcome x) a ∙ (λ i. fromOutcome (restoredIn s (w i))) ∙ reply-restored s (λ e. c .before .before .before .before .before .before .if1 .left (w ∙ e)) more (λ e. c .before .before .before .if4 .left (w ∙ e)) (λ e. c .before .before .if5 .left (w ∙ e))
 
 pub reply-to-spec : {M : Type 1} → statement M
 reply-to-spec =
@@ -151,8 +141,6 @@ reply-to-spec =
     returns-4
     from-written-requires
     returns-5
-    conf-state-requires
-    word-requires-3
-    restore-requires
+    restored-requires
     from-outcome-requires-2
     returns-6)

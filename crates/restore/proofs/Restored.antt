@@ -1,9 +1,8 @@
 -- `restore` beside `restore_step_by_step`, on trackers. Assumes nothing.
 use Prim.Native.Nat.{ℕ}
 use mathlib.Core.Path.{_≡_, refl, ap, _∙_, sym}
-use mathlib.Core.Bool.{Bool, true, false, cond}
+use mathlib.Core.Bool.{Bool, true, false}
 use borrow.Author.Tests.{eq-eqb, ne-eqb}
-use lib.Dec.{eqb}
 use Rattle.rules.specs.State.{State}
 use Rattle.rules.specs.Answers.{Verdict, fault, ok, settle}
 use Rattle.rules.specs.Restore as rules
@@ -17,16 +16,12 @@ use Rattle.tracker.specs.declared.ConfState.{ConfState}
 use Rattle.tracker.specs.declared.Outcome.{Outcome}
 use Rattle.tracker.specs.declared.Tracker.{Tracker}
 use Rattle.tracker.proofs.Bridge.{tracker-formed, unit-tracker}
-use Rattle.restore.specs.Restore.{restoreOf, stepByStepOf, tooLong}
+use Rattle.restore.specs.Restore.{restoreOf, stepByStepOf, tooLong, wholeOf}
 use Rattle.restore.proofs.Marked.{Marked}
 use Rattle.restore.proofs.Steps.{run-left}
 use Rattle.restore.proofs.Answers.{passed}
 
 module _ (t : Tracker) (cs : ConfState) (next : ℕ) where
-  -- o, or where it is refused, the tracker given under its number and id
-  abbrev pub unlessRefused : Outcome → Outcome
-  unlessRefused o = cond (eqb (o .number) 0) o (refusedOf t (o .number) (o .id))
-
   -- a refusal's number is not 0
   steps-marked : trackerWellFormed t ≡ true → tooLong cs ≡ false → Marked (rules.restoreStepByStep (stateOf t) (listsOf cs) next .verdict)
   unfolding rules.restoreStepByStep
@@ -34,28 +29,31 @@ module _ (t : Tracker) (cs : ConfState) (next : ℕ) where
       let p = passed t w cs f next in
       rw p (run-left next (restoreSteps (listsOf cs)) (restore-short (stateOf t) (listsOf cs) p) (stateOf t) (tracker-formed t w) .marked)
 
-  settled : trackerWellFormed t ≡ true → (v : Verdict) (u : State) → Marked v → outcomeOf (settle v (stateOf t) u) ≡ unlessRefused (outcomeOf (record { verdict = v; state = u }))
-  unfolding Numbered
+  settled : trackerWellFormed t ≡ true → (v : Verdict) (u : State) → Marked v → outcomeOf (settle v (stateOf t) u) ≡ wholeOf t (outcomeOf (record { verdict = v; state = u }))
+  unfolding wholeOf Numbered
   settled w ok u m = refl
   settled w (fault n x) u m = rw (m, unit-tracker t w)
 
-  pub restore-whole : restoreOf t cs next ≡ unlessRefused (stepByStepOf t cs next)
-  unfolding restoreOf stepByStepOf rules.restore
+  pub restore-whole : restoreOf t cs next ≡ wholeOf t (stepByStepOf t cs next)
+  unfolding wholeOf restoreOf stepByStepOf rules.restore
   restore-whole = go (trackerWellFormed t) (tooLong cs) refl refl
     where
-      go : (w f : Bool) → trackerWellFormed t ≡ w → tooLong cs ≡ f → restoreOf t cs next ≡ unlessRefused (stepByStepOf t cs next)
+      go : (w f : Bool) → trackerWellFormed t ≡ w → tooLong cs ≡ f → restoreOf t cs next ≡ wholeOf t (stepByStepOf t cs next)
       go true true p q = rw (p, q)
       go true false p q =
           rw (p, q) (settled p (rules.restoreStepByStep (stateOf t) (listsOf cs) next .verdict) (rules.restoreStepByStep (stateOf t) (listsOf cs) next .state) (steps-marked p q))
       go false f p q = rw p
 
   -- what the code returns
-  module _ {o : Outcome} (e : o ≡ stepByStepOf t cs next) where
-    whole-is : unlessRefused o ≡ restoreOf t cs next
-    whole-is = ap unlessRefused e ∙ sym restore-whole
+  pub made-whole : {o r : Outcome} → o ≡ stepByStepOf t cs next → r ≡ wholeOf t o → r ≡ restoreOf t cs next
+  made-whole e q = q ∙ ap (wholeOf t) e ∙ sym restore-whole
 
-    pub whole-refused : (o .number ≡ 0 → ⊥) → {r : Outcome} → r ≡ refusedOf t (o .number) (o .id) → r ≡ restoreOf t cs next
-    whole-refused h q = q ∙ sym (ap (λ (b : Bool). cond b o (refusedOf t (o .number) (o .id))) (ne-eqb (o .number) 0 h)) ∙ whole-is
+-- what `whole` returns
+module _ (t : Tracker) (o : Outcome) where
+  pub whole-refused : (o .number ≡ 0 → ⊥) → {r : Outcome} → r ≡ refusedOf t (o .number) (o .id) → r ≡ wholeOf t o
+  unfolding wholeOf
+  whole-refused h q = q ∙ rw (ne-eqb (o .number) 0 h)
 
-    pub whole-accepted : o .number ≡ 0 → o ≡ restoreOf t cs next
-    whole-accepted h = sym (ap (λ (b : Bool). cond b o (refusedOf t (o .number) (o .id))) (eq-eqb (o .number) 0 h)) ∙ whole-is
+  pub whole-accepted : o .number ≡ 0 → o ≡ wholeOf t o
+  unfolding wholeOf
+  whole-accepted h = rw (eq-eqb (o .number) 0 h)
