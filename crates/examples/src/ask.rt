@@ -45,10 +45,7 @@ pub(crate) fn restore(asked: &[u8], cs: ConfState) -> Tracker {
 
 // `restore_step_by_step` of the fresh state.
 pub(crate) fn restore_step_by_step(asked: &[u8], cs: ConfState) -> Tracker {
-    restored(
-        asked,
-        restore::restore_step_by_step(fresh(), cs, NEXT_IDX),
-    )
+    restored(asked, restore::restore_step_by_step(fresh(), cs, NEXT_IDX))
 }
 
 // A restore's line; the state that it leaves.
