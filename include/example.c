@@ -1,5 +1,6 @@
 /* Document 01's example 8 from C: a demoted voter is staged, and is a learner once the joint configuration is left. Its list has one
- * entry more, for a box that already stands as asked: that one counts as idle.
+ * entry more, for a box that already stands as asked: that one counts as idle. Then a damaged configuration is restored, whole and step by
+ * step.
  * Build and run it: scripts/embed */
 #include "dimecandle.h"
 
@@ -28,6 +29,14 @@ static void show_ids(const char *label, const dimecandle_ids *set) {
     printf(")");
 }
 
+static void show_state(const dimecandle_state *state) {
+    show_ids("incoming", &state->conf.incoming);
+    show_ids("outgoing", &state->conf.outgoing);
+    show_ids("learners", &state->conf.learners);
+    show_ids("learners_next", &state->conf.learners_next);
+    show_ids("tracked", &state->tracked);
+}
+
 /* An accepted answer is applied at once; a refused one says its number and id. */
 static void answered(const char *what) {
     printf("%s:", what);
@@ -40,17 +49,24 @@ static void answered(const char *what) {
     request.log = reply.log;
     call(DIMECANDLE_APPLY_CONF);
     request.state = reply.state;
-    show_ids("incoming", &request.state.conf.incoming);
-    show_ids("outgoing", &request.state.conf.outgoing);
-    show_ids("learners", &request.state.conf.learners);
-    show_ids("learners_next", &request.state.conf.learners_next);
-    show_ids("tracked", &request.state.tracked);
+    show_state(&request.state);
     printf(" idle=%llu\n", (unsigned long long)idle);
+}
+
+/* The number, and the state that a restore leaves. */
+static void restored(const char *what) {
+    printf("%s: number %llu, left", what, (unsigned long long)reply.number);
+    show_state(&reply.state);
+    printf("\n");
 }
 
 static void change(uint64_t id, uint64_t kind) {
     request.list.ids[request.list.ids_count++] = id;
     request.list.kinds[request.list.kinds_count++] = kind;
+}
+
+static void append(dimecandle_ids *list, uint64_t id) {
+    list->ids[list->count++] = id;
 }
 
 int main(void) {
@@ -72,5 +88,16 @@ int main(void) {
     answered("simple");
     call(DIMECANDLE_LEAVE_JOINT);
     answered("leave_joint");
+
+    /* voters (5), learners (1 2 4 5): every voter is to be a learner, and the last step is refused with 17 */
+    append(&request.conf_state.voters, 5);
+    append(&request.conf_state.learners, 1);
+    append(&request.conf_state.learners, 2);
+    append(&request.conf_state.learners, 4);
+    append(&request.conf_state.learners, 5);
+    call(DIMECANDLE_RESTORE);
+    restored("restore");
+    call(DIMECANDLE_RESTORE_STEP_BY_STEP);
+    restored("restore_step_by_step");
     return 0;
 }

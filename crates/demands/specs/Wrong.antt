@@ -12,12 +12,12 @@ use Rattle.rules.specs.Ids.{above, ascending, insertAll, insertId, memb, minus,
 use Rattle.rules.specs.State.{Change, ConfState, Entry, Kind, Peer, State, add, addLearner, addNode, confFormed, formed, fresh, ids, logFormed, remove, removeNode}
 use Rattle.rules.specs.Answers.{Answer, accepted, each, fault, ok, refused}
 use Rattle.rules.specs.Check.{check}
-use Rattle.rules.specs.Table.{L, OS, Standing, standingIn, table}
+use Rattle.rules.specs.Table.{I, L, OS, Standing, none, standingIn, table}
 use Rattle.rules.specs.Changes.{change, changes, lastSays, pending}
 use Rattle.rules.specs.Calls.{enterJoint, enterOf, listOf, readable, simple, simpleOf}
 use Rattle.rules.specs.Apply.{applyConf, enrol, room, toConfState, track, untrack}
 use Rattle.rules.specs.Restore.{Step, all, applyAnswer, ask, oneByOne, restorable, restore, restoreStepByStep, restoreSteps, run}
-use Rattle.rules.specs.Sequences.{Call, afterCalls, deeds, deedsOf, perform, simpleCall}
+use Rattle.rules.specs.Sequences.{Call, afterCalls, deeds, deedsOf, deedsOfRun, inTurn, perform, restoreCall, simpleCall, stepByStepCall}
 use Rattle.rules.specs.Boxes.{Box, Found, absent, boxOf, entered, events, found, naming, recordOf, replay}
 use Rattle.rules.specs.Rows.{conf, lists, new, of, old, olds}
 
@@ -133,3 +133,20 @@ pub learners-first : (restore (fresh 256) (toConfState s12 .confState) 77 ≡ re
     × (run 77 (fresh 256) (learnersFirst (toConfState s12 .confState)) ≡ record { verdict = fault 17 0; state = fresh 256 })
 unfolding toConfState restore restoreStepByStep run restorable restoreSteps oneByOne all ask simpleOf check each changes change table standingIn lastSays pending applyConf room enrol formed confFormed logFormed memb above ascending insertId insertAll removeId minus ids track untrack
 learners-first = (refl, refl)
+
+-- ** A restore that keeps the steps before a refused one, and a replay that counts them: document 02, g)
+
+abbrev damaged : ConfState
+damaged = lists (3 ∷ []) (1 ∷ 3 ∷ []) [] []
+
+abbrev half : State
+half = of (old 1 ∷ old 2 ∷ new 3 ∷ []) (conf (3 ∷ []) [] (1 ∷ 2 ∷ []) [])
+
+-- voters (1), learners (2), restore voters (3), learners (1 3): the third step is refused. By `restore` nothing is left of the two before it, and
+-- none counts: box 3 is as it was. Asked for step by step they stay and count, and box 3 is admitted.
+pub half-kept : (restore s12 damaged 77 ≡ record { verdict = fault 17 0; state = s12 }) × (restoreStepByStep s12 damaged 77 ≡ record { verdict = fault 17 0; state = half })
+    × (replay (events 256 3 (deedsOf s12 (restoreCall damaged 77))) (boxOf s12 3) ≡ record { standing = none; held = absent })
+    × (replay (events 256 3 (deedsOf s12 (stepByStepCall damaged 77))) (boxOf s12 3) ≡ box I 77)
+    × (boxOf s12 3 ≡ record { standing = none; held = absent }) × (boxOf half 3 ≡ box I 77)
+unfolding replay naming events deedsOf deedsOfRun inTurn perform recordOf restore restoreStepByStep run restorable restoreSteps oneByOne all ask simpleOf check each changes change table standingIn lastSays pending applyConf room enrol formed confFormed logFormed memb above ascending insertId insertAll removeId minus ids track untrack
+half-kept = (refl, refl, refl, refl, refl, refl)

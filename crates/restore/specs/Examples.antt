@@ -1,4 +1,4 @@
--- `restore`, `restore_step_by_step` and `apply_answer` tried on small states. Above each line stands what it rules out: a program that would leave another state, or
+-- `restore`, `restore_step_by_step`, `whole` and `apply_answer` tried on small states. Above each line stands what it rules out: a program that would leave another state, or
 -- answer another number or id. Assumes nothing.
 use Prim.Native.Nat.{ℕ}
 use mathlib.Core.Path.{_≡_, refl}
@@ -25,7 +25,7 @@ use Rattle.tracker.specs.Apply.{refusedOf, applyOf}
 use Rattle.tracker.specs.declared.ConfState.{ConfState}
 use Rattle.tracker.specs.declared.Outcome.{Outcome}
 use Rattle.changer.specs.declared.Answer.{Answer}
-use Rattle.restore.specs.Restore.{appliedTo, tooLong, restoreOf, stepByStepOf}
+use Rattle.restore.specs.Restore.{appliedTo, wholeOf, tooLong, restoreOf, stepByStepOf}
 
 abbrev leaves : State → Outcome
 leaves s = record { number = 0; id = 0; tracker = trackerOf s }
@@ -85,6 +85,14 @@ pub restored-step-by-step :
     × (stepByStepOf (trackerOf m1) long 77 ≡ refusedOf (trackerOf m1) 1 0)
 unfolding stepByStepOf tooLong trackerWellFormed confWellFormed wellFormed zeros allUnused isUnused setOf recordPlaces recordsOf peersOf rules.restoreStepByStep run restorable restoreSteps oneByOne all ask simpleOf enterOf check each changes change table standingIn lastSays pending applyConf room enrol formed confFormed logFormed memb above ascending insertId insertAll removeId minus ids track untrack
 restored-step-by-step = (refl, refl, refl, refl, refl)
+
+pub made-whole :
+    -- `whole` that keeps what a refused restore left; that drops the refusal's id
+    (wholeOf (trackerOf s1) (refusedOf (trackerOf half) 16 65) ≡ refusedOf (trackerOf s1) 16 65)
+    -- `whole` that gives back the state of an accepted one
+    × (wholeOf (trackerOf s1) (leaves half) ≡ leaves half)
+unfolding wholeOf
+made-whole = (refl, refl)
 
 abbrev answer : ℕ → ℕ → Conf → List Entry → Answer
 answer n x c log = record { number = n; id = x; conf = configurationOf c; log = changeLogOf log; idle = 0 }
