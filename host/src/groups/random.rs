@@ -2,7 +2,7 @@
 
 use super::restores::both_names;
 use super::Size;
-use crate::calls::{APPLY_CONF, CALLS, ENTER_JOINT, LEAVE_JOINT, SIMPLE, TO_CONF_STATE};
+use crate::calls::{numbered, APPLY_CONF, CALLS, ENTER_JOINT, LEAVE_JOINT, RESTORE, RESTORE_STEP_BY_STEP, SIMPLE, TO_CONF_STATE};
 use crate::compare::{Compared, Comparison};
 use crate::generate;
 use crate::random::Random;
@@ -55,8 +55,8 @@ pub fn malformed(comparison: &mut Comparison, random: &mut Random, size: Size) -
     Ok(())
 }
 
-/// Sequences of calls from fresh. Each accepted answer is applied; on the way every state is checked, written out and restored to
-/// fresh under both names.
+/// Sequences of calls from fresh, restores under both names among them. Each accepted answer is applied; on the way every state is checked,
+/// written out and restored to fresh under both names.
 pub fn sequences(comparison: &mut Comparison, random: &mut Random, size: Size) -> Compared {
     for _ in 0..size.pick(40, 600, 20_000) {
         let count = random.pick(&[3, 5, 8, 16, 70]);
@@ -66,14 +66,24 @@ pub fn sequences(comparison: &mut Comparison, random: &mut Random, size: Size) -
         for _ in 0..random.between(1, 40) {
             comparison.plain_calls(&mut request)?;
             written_and_restored(comparison, &mut request)?;
+            let step = if random.one_in(8) { restored } else { answered };
             step(comparison, random, &ids, &mut request)?;
         }
     }
     Ok(())
 }
 
-/// One call, and the answer applied.
-fn step(comparison: &mut Comparison, random: &mut Random, ids: &[u64], request: &mut Request) -> Compared {
+/// A restore, and the state that it leaves: a refused `restore` leaves the one given, a refused `restore_step_by_step` its earlier steps.
+fn restored(comparison: &mut Comparison, random: &mut Random, ids: &[u64], request: &mut Request) -> Compared {
+    let call = numbered(random.pick(&[RESTORE, RESTORE_STEP_BY_STEP])).expect("a call of the table");
+    generate::arguments(random, call, ids, request);
+    comparison.call(request)?;
+    request.state = comparison.expected(request).0.state;
+    Ok(())
+}
+
+/// Another call, and the answer applied.
+fn answered(comparison: &mut Comparison, random: &mut Random, ids: &[u64], request: &mut Request) -> Compared {
     let joint = request.state.conf.outgoing.count != 0;
     request.call = if joint && !random.one_in(10) { LEAVE_JOINT } else { random.pick(&[SIMPLE, SIMPLE, ENTER_JOINT]) };
     let length = if random.one_in(2) { 1 } else { random.between(0, 6) };
