@@ -21,7 +21,7 @@ appliedTo t a next = cond (eqb (a .number) 0) (applyOf t (a .conf) (a .log) next
 unfoldable pub tooLong : ConfState → Bool
 tooLong cs = ltb 64 (cs .voters .len) || ltb 64 (cs .learners .len) || ltb 64 (cs .«voters_outgoing» .len) || ltb 64 (cs .«learners_next» .len)
 
--- "a refused `restore` now returns the state it was given, with the same number and id"
+-- document 02, g): "a refused `restore` now returns the state it was given, with the same number and id"
 unfoldable pub wholeOf : Tracker → Outcome → Outcome
 wholeOf t o = cond (eqb (o .number) 0) o (refusedOf t (o .number) (o .id))
 

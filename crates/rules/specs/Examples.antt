@@ -62,7 +62,7 @@ rows =
     ∷ row 11 s0 (stepByStepCall (lists (1 ∷ 2 ∷ 3 ∷ []) (5 ∷ []) (1 ∷ 2 ∷ 4 ∷ 6 ∷ []) (4 ∷ [])) 77) ok s11 []
     ∷ row 11 s11a (enterCall false (1 ∷ 2 ∷ 4 ∷ 6 ∷ 1 ∷ 2 ∷ 3 ∷ 5 ∷ 4 ∷ []) (1 ∷ 1 ∷ 1 ∷ 1 ∷ 0 ∷ 0 ∷ 0 ∷ 2 ∷ 2 ∷ []) 77) ok s11 (add 3 ∷ add 5 ∷ [])
     ∷ row 11 s11 (leaveCall 78) ok (of (new 1 ∷ new 2 ∷ new 3 ∷ new 4 ∷ new 5 ∷ []) (conf (1 ∷ 2 ∷ 3 ∷ []) [] (4 ∷ 5 ∷ []) [])) (remove 6 ∷ [])
-    -- document 02, g): "example 12 .. ask by name for step-by-step restore"; by `restore` it is refused whole
+    -- document 02, g): example 12 asks "by name for step-by-step restore"; by `restore` it is refused whole
     ∷ row 12 s0 (stepByStepCall (lists (1 ∷ 2 ∷ []) (1 ∷ 2 ∷ []) [] []) 77) (fault 17 0) (of (new 1 ∷ new 2 ∷ []) (conf (2 ∷ []) [] (1 ∷ []) [])) []
     ∷ row 12 s0 (restoreCall (lists (1 ∷ 2 ∷ []) (1 ∷ 2 ∷ []) [] []) 77) (fault 17 0) s0 []
     ∷ []
