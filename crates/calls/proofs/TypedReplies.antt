@@ -14,11 +14,10 @@ use Rattle.rules.specs.Answers as answers
 use Rattle.rules.specs.Answers.{Verdict, _▸_, fault, ok, refuse, refused, settle}
 use Rattle.rules.specs.Check.{checkState}
 use Rattle.rules.specs.Apply.{applied, applyConf, noConfState, room, toConfState}
-use Rattle.rules.specs.Restore.{guarded, restorable, restore, restoreStepByStep, restoreSteps, run}
+use Rattle.rules.specs.Restore.{restore, restoreStepByStep}
 use Rattle.rules.specs.Idle.{enterIdles, simpleIdles}
 use Rattle.rules.proofs.Changes.{ids-enrol}
 use Rattle.rules.proofs.Check.{refuse-ok, then-left, then-right}
-use Rattle.rules.proofs.Demand3.{restore-short}
 use Rattle.rules.proofs.Formed.{of-whole, sets-of, whole-of}
 use Rattle.rules.proofs.Idle.{enter-few, simple-few}
 use Rattle.rules.proofs.Sets.{and-left, or-left, or-right}
@@ -38,7 +37,7 @@ use Rattle.changer.specs.declared.Answer.{Answer}
 use Rattle.changer.proofs.Pending.{pending-set}
 use Rattle.restore.specs.Restore.{restoreOf, restoring, stepByStepOf, tooLong}
 use Rattle.restore.proofs.Applied.{Fits, enter-fits, leave-fits, simple-fits}
-use Rattle.restore.proofs.Steps.{run-left}
+use Rattle.restore.proofs.Restored.{steps-left, whole-left}
 use Rattle.calls.specs.Layout.{confAt, confStateAt, entriesAt, flag, listAt, logAt, number, recordAt, recordsAt, setAt, stateAt, word, words}
 use Rattle.calls.specs.Call.{callAnswer, callLeaves, fromAnswer, fromOutcome, fromVerdict, fromWritten, kindsIn, noLists, noLog, reply, replyTo}
 use Rattle.calls.proofs.Typed.{U64, Each, none, more, ArrayOf, TypedSet, TypedList, TypedConf, TypedRecord, TypedState, TypedEntry, TypedLog, TypedConfState, TypedReply}
@@ -100,22 +99,6 @@ apply-formed s f c log next = go (ill ▸ room log (ids (s .peers))) refl
         of-whole (applied s c log next)
         (record { sets = sets-of c fits; tracked = rw ids-enrol (pending-set log (ids (s .peers)) (whole-of s f .tracked) (then-right ill (room log (ids (s .peers))) e)) })
 
-steps-formed : (s : State) → formed s ≡ true → (k : rules.ConfState) (next : ℕ) → formed (restoreStepByStep s k next .state) ≡ true
-unfolding restoreStepByStep
-steps-formed s f k next = go (restorable s k) refl
-  where
-    go : (v : Verdict) → restorable s k ≡ v → formed (guarded v s (run next s (restoreSteps k)) .state) ≡ true
-    go ok e = run-left next (restoreSteps k) (restore-short s k e) s f .good
-    go (fault n x) e = f
-
-restore-formed : (s : State) → formed s ≡ true → (k : rules.ConfState) (next : ℕ) → formed (restore s k next .state) ≡ true
-unfolding restore
-restore-formed s f k next = go (restoreStepByStep s k next .verdict)
-  where
-    go : (v : Verdict) → formed (settle v s (restoreStepByStep s k next .state) .state) ≡ true
-    go ok = steps-formed s f k next
-    go (fault n x) = f
-
 number-said : {v : Verdict} → Said v → U64 (numberOf v)
 number-said passed = omega arith
 number-said (faulted h k) = h
@@ -149,20 +132,21 @@ module _ {t : Tracker} (z : TypedState t) {next : ℕ} (n : U64 next) where
           outcome-typed (applied-u64 n (state-u64 z) (conf-u64 y) (log-u64 l)) (apply-formed (stateOf t) f (confOf c) (logOf log) next)
       go false e = record { number = omega arith; id = omega arith; tracker = z }
 
-  restoring-typed : (k : ConfState) (o : answers.Outcome) → U64Outcome o → (trackerWellFormed t ≡ true → formed (o .state) ≡ true) → TypedOutcome (restoring t k o)
-  restoring-typed k o u f = go (trackerWellFormed t) refl
+  restoring-typed : (k : ConfState) (o : answers.Outcome) → U64Outcome o → (trackerWellFormed t ≡ true → tooLong k ≡ false → formed (o .state) ≡ true) → TypedOutcome (restoring t k o)
+  restoring-typed k o u f = go (trackerWellFormed t) (tooLong k) refl refl
     where
-      go : (b : Bool) → trackerWellFormed t ≡ b → TypedOutcome (cond b (cond (tooLong k) (refusedOf t 2 0) (outcomeOf o)) (refusedOf t 1 0))
-      go true e = either TypedOutcome (tooLong k) (record { number = omega arith; id = omega arith; tracker = z }) (outcome-typed u (f e))
-      go false e = record { number = omega arith; id = omega arith; tracker = z }
+      go : (b c : Bool) → trackerWellFormed t ≡ b → tooLong k ≡ c → TypedOutcome (cond b (cond c (refusedOf t 2 0) (outcomeOf o)) (refusedOf t 1 0))
+      go true true e h = record { number = omega arith; id = omega arith; tracker = z }
+      go true false e h = outcome-typed u (f e h)
+      go false c e h = record { number = omega arith; id = omega arith; tracker = z }
 
   restore-typed : {k : ConfState} → TypedConfState k → TypedOutcome (restoreOf t k next)
   unfolding restoreOf
-  restore-typed {k} y = restoring-typed k (restore (stateOf t) (listsOf k) next) (restore-u64 n (state-u64 z) (lists-u64 y)) (λ e. restore-formed (stateOf t) (tracker-formed t e) (listsOf k) next)
+  restore-typed {k} y = restoring-typed k (restore (stateOf t) (listsOf k) next) (restore-u64 n (state-u64 z) (lists-u64 y)) (λ e h. whole-left t e k h next .good)
 
   steps-typed : {k : ConfState} → TypedConfState k → TypedOutcome (stepByStepOf t k next)
   unfolding stepByStepOf
-  steps-typed {k} y = restoring-typed k (restoreStepByStep (stateOf t) (listsOf k) next) (steps-restored-u64 n (state-u64 z) (lists-u64 y)) (λ e. steps-formed (stateOf t) (tracker-formed t e) (listsOf k) next)
+  steps-typed {k} y = restoring-typed k (restoreStepByStep (stateOf t) (listsOf k) next) (steps-restored-u64 n (state-u64 z) (lists-u64 y)) (λ e h. steps-left t e k h next .good)
 
 -- ** A request
 

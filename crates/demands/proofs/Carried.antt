@@ -6,12 +6,11 @@ use mathlib.Core.Bool.{Bool, true, false, cond}
 use mathlib.Core.List.{List, [], _∷_}
 use Rattle.rules.specs.State.{State, formed}
 use Rattle.rules.specs.Answers as R
-use Rattle.rules.specs.Answers.{Verdict, fault, ok, settle}
+use Rattle.rules.specs.Answers.{Verdict, fault, ok}
 use Rattle.rules.specs.Calls.{enterJoint, leaveJoint, simple}
-use Rattle.rules.specs.Restore.{applyAnswer, restorable, restore, restoreStepByStep, restoreSteps}
+use Rattle.rules.specs.Restore.{applyAnswer, restore}
 use Rattle.rules.specs.Sequences as rules
 use Rattle.rules.specs.Sequences.{Deed, ifOk}
-use Rattle.rules.proofs.Demand3.{restore-short}
 use Rattle.rules.proofs.Numbers.{Numbered}
 use Rattle.tracker.specs.Apply.{outcomeOf}
 use Rattle.tracker.specs.Bridge.{listsOf, stateOf}
@@ -23,9 +22,9 @@ use Rattle.tracker.proofs.Bridge.{state-back, tracker-formed, tracker-well}
 use Rattle.restore.specs.Restore.{restoreOf, stepByStepOf, tooLong}
 use Rattle.restore.proofs.Marked.{Marked}
 use Rattle.restore.proofs.Applied.{Fits, applied-formed, applied-marked, enter-applied, enter-fits, leave-applied, leave-fits, simple-applied, simple-fits}
-use Rattle.restore.proofs.Steps.{Left, run-left}
+use Rattle.restore.proofs.Answers.{passed}
+use Rattle.restore.proofs.Restored.{restored, stepped, steps-left, whole-left}
 use Rattle.demands.specs.Sequences.{Call, afterCalls, deeds, deedsOf, enterCall, ifAccepted, leaveCall, perform, restoreCall, simpleCall, stepByStepCall}
-use Rattle.demands.proofs.Restorable.{lists-short, restored, short-restorable, stepped, steps-run}
 
 -- ** One call
 
@@ -88,29 +87,15 @@ module _ (t : Tracker) (w : trackerWellFormed t ≡ true) where
     long-stepped h = rw (w, h) (refl, refl)
 
     module _ (h : tooLong cs ≡ false) where
-      passed : restorable s (listsOf cs) ≡ ok
-      passed = short-restorable s f (listsOf cs) (lists-short cs h)
-
-      pub steps-left : Left (restoreStepByStep s (listsOf cs) n)
-      steps-left = rw (steps-run s f (listsOf cs) (lists-short cs h) n) (run-left n (restoreSteps (listsOf cs)) (restore-short s (listsOf cs) passed) s f)
-
-      whole-left : Left (restore s (listsOf cs) n)
-      unfolding restore
-      whole-left = go (restoreStepByStep s (listsOf cs) n .verdict) (steps-left .marked)
-        where
-          go : (v : Verdict) → Marked v → Left (settle v s (restoreStepByStep s (listsOf cs) n .state))
-          go ok m = record { good = steps-left .good; marked = m }
-          go (fault k x) m = record { good = f; marked = m }
-
       restore-is : Is t (restoreCall cs n) (rules.restoreCall (listsOf cs) n)
       unfolding perform rules.perform deedsOf rules.deedsOf
       restore-is =
           let e : perform t (restoreCall cs n) ≡ outcomeOf (restore s (listsOf cs) n) = restored t w cs h n in
-          record { outcome = e; good = whole-left .good; same = accepts _ (restore s (listsOf cs) n) e (whole-left .marked) _ }
+          record { outcome = e; good = whole-left t w cs h n .good; same = accepts _ (restore s (listsOf cs) n) e (whole-left t w cs h n .marked) _ }
 
       pub steps-are : Is t (stepByStepCall cs n) (rules.stepByStepCall (listsOf cs) n)
       unfolding perform rules.perform deedsOf rules.deedsOf
-      steps-are = record { outcome = stepped t w cs h n; good = steps-left .good; same = rw (w, h, passed) }
+      steps-are = record { outcome = stepped t w cs h n; good = steps-left t w cs h n .good; same = rw (w, h, passed t w cs h n) }
 
 -- ** A sequence
 

@@ -1,4 +1,3 @@
-pub mod Restorable
 pub mod Carried
 pub mod Boxes
 pub mod Counts

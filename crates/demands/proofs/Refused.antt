@@ -12,7 +12,6 @@ use Rattle.rules.specs.Answers as R
 use Rattle.rules.specs.Answers.{Verdict, accepted, fault, ok, passes, refused}
 use Rattle.rules.specs.Apply.{applyConf, noConfState, toConfState}
 use Rattle.rules.specs.Restore.{Step, attempt, restoreSteps, run}
-use Rattle.rules.proofs.Demand3.{restore-short}
 use Rattle.rules.proofs.Numbers.{Numbered}
 use Rattle.rules.proofs.Sets.{and-left}
 use Rattle.tracker.specs.Apply.{applyOf, numberOf, outcomeOf, refusedOf}
@@ -29,11 +28,10 @@ use Rattle.changer.specs.Calls.{answerOf, ifFormed}
 use Rattle.changer.specs.declared.Answer.{Answer}
 use Rattle.restore.specs.Restore.{appliedTo, restoreOf, stepByStepOf, tooLong, wholeOf}
 use Rattle.restore.proofs.Steps.{run-left}
-use Rattle.restore.proofs.Restored.{restore-whole}
+use Rattle.restore.proofs.Restored.{restore-whole, stepped-runs, steps-short}
 use Rattle.demands.specs.Demands.{AnswerUntouched, StateUntouched}
 use Rattle.demands.specs.Statements.{Stays}
 use Rattle.demands.proofs.Late.{Late, late-run}
-use Rattle.demands.proofs.Restorable.{lists-short, short-restorable, stepped-runs}
 use Rattle.demands.proofs.Stopped.{Stopped, apply-left, run-stops}
 
 late-few : (n : ℕ) → ltb 3 n ≡ true → n ≤ 2 → ⊥
@@ -118,14 +116,10 @@ module _ (t : Tracker) where
     -- the run, its state and its number
     module _ (w : trackerWellFormed t ≡ true) (h : tooLong cs ≡ false) where
       run-formed : formed (o .state) ≡ true
-      run-formed =
-          let f : formed (stateOf t) ≡ true = tracker-formed t w in
-          run-left n ps (restore-short (stateOf t) (listsOf cs) (short-restorable (stateOf t) f (listsOf cs) (lists-short cs h))) (stateOf t) f .good
+      run-formed = run-left n ps (steps-short t w cs h n) (stateOf t) (tracker-formed t w) .good
 
       run-late : Late (o .verdict)
-      run-late =
-          let f : formed (stateOf t) ≡ true = tracker-formed t w in
-          late-run n ps (restore-short (stateOf t) (listsOf cs) (short-restorable (stateOf t) f (listsOf cs) (lists-short cs h))) (stateOf t) f
+      run-late = late-run n ps (steps-short t w cs h n) (stateOf t) (tracker-formed t w)
 
     -- 1 for the tracker, 2 for the lists, or a run
     pub steps-ways : (P : Outcome → Type 0) → P (record { number = 1; id = 0; tracker = t }) → P (record { number = 2; id = 0; tracker = t })

@@ -1,9 +1,10 @@
 -- Demand 2's last sentence of trackers, from the rules' round trip. Assumes nothing.
-use Prim.Native.Nat.{ℕ}
+use Prim.Native.Nat.{ℕ, _≤_}
 use mathlib.Core.Path.{_≡_, refl, ap, _∙_, subst, sym}
 use mathlib.Core.Bool.{true, false}
 use mathlib.Core.List.{List}
 use borrow.Author.Tests.{le-ltb}
+use lib.ListN.{length}
 use Rattle.rules.specs.Ids.{ascending, memb}
 use Rattle.rules.specs.State.{State, confFormed, formed, fresh, ids}
 use Rattle.rules.specs.State as lists
@@ -26,10 +27,10 @@ use Rattle.idset.proofs.Bridge.{held-few}
 use Rattle.tracker.proofs.Bridge.{Sets, conf-sets, lists-back, roster-set, rostered, state-back, tracked-ids, tracker-formed, tracker-parts, tracker-well, unit-conf}
 use Rattle.tracker.proofs.Peers.{peers-records}
 use Rattle.restore.specs.Restore.{restoreOf, tooLong}
+use Rattle.restore.proofs.Restored.{restored}
 use Rattle.demands.specs.Sequences.{Call, afterCalls}
 use Rattle.demands.specs.Demands.{ComesBack}
 use Rattle.demands.proofs.Carried.{Carried, carried, plain}
-use Rattle.demands.proofs.Restorable.{Short, restored}
 use Rattle.demands.proofs.Whole.{whole}
 
 -- ** The fresh tracker
@@ -39,6 +40,13 @@ unfolding formed confFormed ascending ids
 fresh-formed m = refl
 
 -- ** A well-formed tracker, written out and restored
+
+-- the four lists have at most 64 entries
+record Short (k : lists.ConfState) : Type 0 where
+  voters : length (k .voters) ≤ 64
+  learners : length (k .learners) ≤ 64
+  outgoing : length (k .votersOutgoing) ≤ 64
+  staged : length (k .learnersNext) ≤ 64
 
 module _ (u : Tracker) (w : trackerWellFormed u ≡ true) where
   -- its lists

@@ -16,6 +16,7 @@ use Rattle.tracker.specs.declared.Tracker.{Tracker}
 use Rattle.tracker.specs.declared.Verdict.{Verdict}
 use Rattle.invariants.specs.Check.{inOrderOf}
 use Rattle.changer.specs.Calls.{enterAnswer, leaveAnswer, simpleAnswer}
+use Rattle.restore.proofs.Restored.{stepped-runs}
 use Rattle.demands.specs.Sequences.{Call, afterCalls}
 use Rattle.demands.specs.Demands.{CanBeLeft, ComesBack, Counted, Kept, Whole}
 use Rattle.demands.specs.Statements.{OthersAlterNeither, RefusedUntouched}
@@ -25,7 +26,6 @@ use Rattle.demands.proofs.Counts.{all-counted}
 use Rattle.demands.proofs.Ordered.{can-be-left, empty-back, fresh-leads, order-back}
 use Rattle.demands.proofs.Others.{others}
 use Rattle.demands.proofs.Refused.{applied-untouched, apply-untouched, asked-untouched, restore-untouched, steps-stay, steps-untouched, whole-untouched, written-nothing}
-use Rattle.demands.proofs.Restorable.{stepped-runs}
 use Rattle.demands.proofs.RoundTrip.{reached-back}
 use Rattle.demands.proofs.Whole.{whole}
 use Rattle.demands.proofs.AllSettled.{Settled, all-settled}

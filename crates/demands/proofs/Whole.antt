@@ -19,12 +19,11 @@ use Rattle.tracker.specs.declared.Outcome.{Outcome}
 use Rattle.tracker.specs.declared.Tracker.{Tracker}
 use Rattle.restore.specs.Restore.{restoreOf, stepByStepOf, tooLong, wholeOf}
 use Rattle.restore.proofs.Marked.{Marked}
-use Rattle.restore.proofs.Restored.{restore-whole}
+use Rattle.restore.proofs.Restored.{restore-whole, stepped, steps-left}
 use Rattle.demands.specs.Demands.{Whole}
 use Rattle.demands.specs.Sequences.{deedsOf, perform, stepByStepCall}
-use Rattle.demands.proofs.Carried.{steps-are, steps-left}
+use Rattle.demands.proofs.Carried.{steps-are}
 use Rattle.demands.proofs.Refused.{restore-untouched}
-use Rattle.demands.proofs.Restorable.{stepped}
 
 module _ (t : Tracker) (cs : ConfState) (n : ℕ) where
   abbrev o : Outcome
@@ -60,7 +59,7 @@ module _ (t : Tracker) (cs : ConfState) (n : ℕ) where
           two : _≡_ {A = ℕ} 2 0 → ⊥
           two e = omega arith
       go true false w f z =
-          let v : restoreStepByStep (stateOf t) (listsOf cs) n .verdict ≡ ok = said _ (steps-left t w cs n f .marked) (ap (λ (r : Outcome). r .number) (sym (stepped t w cs f n)) ∙ z) in
+          let v : restoreStepByStep (stateOf t) (listsOf cs) n .verdict ≡ ok = said _ (steps-left t w cs f n .marked) (ap (λ (r : Outcome). r .number) (sym (stepped t w cs f n)) ∙ z) in
           let whole = restore-is-whole (stateOf t) (listsOf cs) n in
           steps-are t w cs n f .same ∙ whole .same-steps (whole .verdict ∙ v)
       go false f w e z = absurd (one (rw w at z))

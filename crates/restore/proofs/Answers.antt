@@ -175,7 +175,7 @@ module _ (t : Tracker) (w : trackerWellFormed t ≡ true) (cs : ConfState) (f : 
       let s : Short cs = not-long cs f in
       rw (tracker-formed t w, fits (cs .voters) (s .voters), fits (cs .learners) (s .learners), fits (cs .«voters_outgoing») (s .outgoing), fits (cs .«learners_next») (s .staged))
 
-  steps : (ps : List Step) → restoreSteps (listsOf cs) ≡ ps → stepsOf t next ps ≡ stepByStepOf t cs next
+  pub steps : (ps : List Step) → restoreSteps (listsOf cs) ≡ ps → stepsOf t next ps ≡ stepByStepOf t cs next
   unfolding stepByStepOf rules.restoreStepByStep
   steps ps e = rw (w, f, passed, e)
 
