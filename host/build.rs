@@ -5,7 +5,7 @@
 //!
 //! The libraries: `libcalls.a` and `liblisting.a` in the folder named by DIMECANDLE_LIBS, else in the repository's target/staticlib.
 //! With one, `--cfg libcalls` or `--cfg liblisting`; without it the model of the paper stands in its place. Their code is for x86-64:
-//! where this is built for another processor, `--cfg emulated`, and each is put into a program for the emulator instead of this one.
+//! where this is built for another processor, `--cfg emulated`, and each entry is put into a program for the emulator instead of this one.
 
 use std::env;
 use std::fs;
@@ -37,9 +37,8 @@ fn main() {
     }
     let package = PathBuf::from(env::var_os("CARGO_MANIFEST_DIR").expect("cargo names the package"));
     text(&package);
-    for (name, entry) in [("calls", "dimecandle_call"), ("listing", "dimecandle_replay")] {
-        library(&package, name, entry);
-    }
+    library(&package, "calls", &["dimecandle_call", "dimecandle_unplug"]);
+    library(&package, "listing", &["dimecandle_replay"]);
 }
 
 /// The folder that a variable names, else a usual one.
@@ -90,8 +89,8 @@ fn lay_out(package: &Path, source: &Path) {
     fs::write(text.join("modules.rs"), modules).expect("OUT_DIR can be written");
 }
 
-/// Puts the library behind its entry's name, or says why it is not there.
-fn library(package: &Path, name: &str, entry: &str) {
+/// Puts the library behind its entries' names, or says why it is not there.
+fn library(package: &Path, name: &str, entries: &[&str]) {
     let file = folder(package, "DIMECANDLE_LIBS", "../target/staticlib").join(format!("lib{name}.a"));
     println!("cargo::rerun-if-changed={}", file.display());
     let for_x86_64 = env::var("CARGO_CFG_TARGET_ARCH").expect("cargo names it") == "x86_64";
@@ -102,7 +101,7 @@ fn library(package: &Path, name: &str, entry: &str) {
             println!("cargo::rustc-link-arg-bins={}", file.display());
             String::new()
         }
-        Ok(file) => match in_a_program(package, name, entry, &file) {
+        Ok(file) => match entries.iter().try_for_each(|entry| in_a_program(package, entry, &file)) {
             Err(words) => format!("lib{name}.a could not be run when this was built ({words})"),
             Ok(()) => {
                 println!("cargo::rustc-cfg=lib{name}");
@@ -114,8 +113,8 @@ fn library(package: &Path, name: &str, entry: &str) {
     println!("cargo::rustc-env={}_MISSING={missing}", name.to_uppercase());
 }
 
-/// Puts the library into a program of its own, emulated.c, for the emulator.
-fn in_a_program(package: &Path, name: &str, entry: &str, library: &Path) -> Result<(), String> {
+/// Puts an entry of the library into a program of its own, emulated.c, for the emulator.
+fn in_a_program(package: &Path, entry: &str, library: &Path) -> Result<(), String> {
     let [compiler, emulator] = ["x86-64-cc", "x86-64"].map(|script| package.join("../scripts").join(script));
     let source = package.join("emulated.c");
     for file in [&compiler, &emulator, &source] {
@@ -124,12 +123,14 @@ fn in_a_program(package: &Path, name: &str, entry: &str, library: &Path) -> Resu
     for variable in ["RATTLE_HOME", "PATH"] {
         println!("cargo::rerun-if-env-changed={variable}");
     }
-    let program = PathBuf::from(env::var_os("OUT_DIR").expect("cargo names it")).join(name);
-    carry_out(Command::new(compiler).arg(&program).arg(source).arg(format!("-DENTRY={entry}")).arg(library))?;
+    let program = PathBuf::from(env::var_os("OUT_DIR").expect("cargo names it")).join(entry);
+    let name = entry.to_uppercase();
+    let options = [format!("-DENTRY={entry}"), format!("-D{name}")];
+    carry_out(Command::new(compiler).arg(&program).arg(source).args(options).arg(library))?;
     // without input it ends at once
     carry_out(Command::new(&emulator).arg(&program))?;
     println!("cargo::rustc-env=EMULATOR={}", emulator.display());
-    println!("cargo::rustc-env={}_PROGRAM={}", name.to_uppercase(), program.display());
+    println!("cargo::rustc-env={name}_PROGRAM={}", program.display());
     Ok(())
 }
 

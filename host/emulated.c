@@ -1,5 +1,5 @@
 /* One entry of a static library, asked from outside: where the comparison runs on a processor that is not an x86-64, this is what it has the
- * emulator run (src/emulated.rs). ENTRY is the entry's name, given to the compiler; each of the two libraries gets a program of its own.
+ * emulator run (src/emulated.rs). ENTRY is the entry's name, given to the compiler; each entry gets a program of its own.
  *
  * A frame on standard input: three words of 8 bytes, the least significant first (1 if the stack is to be measured, else 0; how many bytes
  * are given; how many are lent), the given bytes, and the lent bytes as they are before the call. The answer on standard output: two words
@@ -8,11 +8,23 @@
 typedef unsigned char byte;
 typedef unsigned long word;
 
-word ENTRY(const byte *given, word given_length, byte *lent, word lent_length);
 void *malloc(word length);
 void free(void *memory);
 long read(int file, void *to, word length);
 long write(int file, const void *from, word length);
+
+#ifdef DIMECANDLE_UNPLUG
+/* The entry on words: its id is the first of the given ones, and the others are its state. */
+word ENTRY(const word *state, word state_length, word id, word *verdict, word verdict_length);
+
+static word asked(const byte *given, word given_length, byte *lent, word lent_length) {
+    const word *words = (const word *)given;
+    return ENTRY(words + 1, given_length / sizeof(word) - 1, words[0], (word *)lent, lent_length / sizeof(word));
+}
+#else
+word ENTRY(const byte *given, word given_length, byte *lent, word lent_length);
+#define asked ENTRY
+#endif
 
 struct room {
     byte *bytes;
@@ -68,7 +80,7 @@ __attribute__((noinline)) static word measured(const byte *given, word given_len
     volatile word here = 0;
     word top = (word)&here;
     fill(top);
-    word returned = ENTRY(given, given_length, lent, lent_length);
+    word returned = asked(given, given_length, lent, lent_length);
     *stack = top - lowest_written(top);
     return returned;
 }
@@ -83,7 +95,7 @@ int main(void) {
         byte *lent = answer.bytes + 2 * sizeof(word);
         if (!take(given.bytes, given_length) || !take(lent, lent_length)) return 1;
         words[1] = 0;
-        words[0] = head[0] ? measured(given.bytes, given_length, lent, lent_length, &words[1]) : ENTRY(given.bytes, given_length, lent, lent_length);
+        words[0] = head[0] ? measured(given.bytes, given_length, lent, lent_length, &words[1]) : asked(given.bytes, given_length, lent, lent_length);
         if (!give(words, answer_length)) return 1;
     }
     return 0;

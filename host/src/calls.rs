@@ -8,7 +8,7 @@ use crate::idle::{self, ListCall};
 use crate::model::{read_log, write_log};
 use crate::model::{Accepted, Answer, Change, Conf, ConfState, Kind, Model, Refusal, State};
 use crate::oracle::{self, Rust};
-use crate::words::{self, Reply, Request, LONGEST_LIST};
+use crate::words::{self, Reply, Request, Verdict, LONGEST_LIST};
 use raft::{Changer, Configuration, MapChange, ProgressTracker};
 
 /// The arguments that a call reads beside the state.
@@ -60,19 +60,23 @@ pub fn numbered(number: u64) -> Option<&'static Call> {
 pub const LARGEST_WINDOW: u64 = 4_096;
 
 /// Whether the Rust has an answer to compare with: "inputs not refused with 1, 2, 3, 16, 19 or 20, with `max_inflight` at most 4,096".
-/// `in_order` refuses nothing, so there the state itself is looked at.
-pub fn in_domain(request: &Request, paper: &Reply) -> bool {
-    let refused = matches!(paper.number, 1 | 2 | 3 | 16);
+/// The number is the paper's.
+pub fn in_domain(state: &words::State, number: u64) -> bool {
+    !matches!(number, 1 | 2 | 3 | 16) && state.max_inflight <= LARGEST_WINDOW
+}
+
+/// The same of a call. `in_order` refuses nothing, so there the state itself is looked at.
+pub fn call_in_domain(request: &Request, paper: &Reply) -> bool {
     let formed = request.call != IN_ORDER || State::read(&request.state).is_some();
-    !refused && formed && request.state.max_inflight <= LARGEST_WINDOW
+    formed && in_domain(&request.state, paper.number)
 }
 
 /// Whether two refusals may stand for each other: "The Rust walks hash sets, so with several faults it may name another. Its answer then
 /// only has to name a fault of the first failing group."
-pub fn same_group(request: &Request, one: (u64, u64), other: (u64, u64)) -> bool {
-    let Some(state) = State::read(&request.state) else { return false };
-    let group = Model::PAPER.first_group(&state, request.call == LEAVE_JOINT);
-    let names = |(number, id)| group.contains(&Refusal { number, id });
+pub fn same_group(state: &words::State, leaving: bool, one: Verdict, other: Verdict) -> bool {
+    let Some(state) = State::read(state) else { return false };
+    let group = Model::PAPER.first_group(&state, leaving);
+    let names = |[number, id]: Verdict| group.contains(&Refusal { number, id });
     names(one) && names(other)
 }
 
@@ -144,6 +148,30 @@ fn rust_leave_joint(rust: &mut Rust, request: &Request, reply: &mut Reply) {
         log.sort_unstable_by_key(|(id, _)| *id);
     }
     rust_answer(answer, reply);
+}
+
+// ** unplug, an entry of its own
+
+pub fn paper_unplug(model: &Model, state: &words::State, id: u64) -> Verdict {
+    verdict(State::read(state).ok_or(MALFORMED).and_then(|state| model.can_unplug(&state, id)))
+}
+
+/// The Rust has no such question: it is asked for `simple` with the single removal.
+pub fn rust_unplug(rust: &mut Rust, state: &words::State, id: u64) -> Verdict {
+    let removal = oracle::changes([(id, words::REMOVE_NODE)]);
+    verdict(refusal(ListCall::Simple.ask(rust.tracker(state), &removal).map(|_| ())))
+}
+
+/// A request of `simple` with the single removal.
+pub fn removal(state: &words::State, id: u64) -> Box<Request> {
+    let mut request = Request::new(SIMPLE);
+    request.state = *state;
+    request.list.set(&[(id, words::REMOVE_NODE)]);
+    request
+}
+
+fn verdict(result: Result<(), Refusal>) -> Verdict {
+    result.map_or_else(|Refusal { number, id }| [number, id], |()| [0, 0])
 }
 
 // ** apply_conf, to_conf_state

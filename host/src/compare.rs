@@ -3,13 +3,13 @@
 //! The subject has to agree with the Rust wherever the Rust has an answer (calls.rs, `in_domain`), and with the paper everywhere: also
 //! in which of several faults is named, in refusals that the paper adds, and in the bytes that stay as they were.
 
-use crate::calls::{self, in_domain, same_group};
+use crate::calls::{self, call_in_domain, in_domain, paper_unplug, removal, rust_unplug, same_group, LEAVE_JOINT};
 use crate::model::Model;
 use crate::oracle::{rust_listing, Entries, Rust};
 use crate::script::{LONGEST_SCRIPT, NO_ROOM, TOO_LONG};
 use crate::show;
 use crate::subject::Subject;
-use crate::words::{Block, Reply, Request, REPLY_BYTES};
+use crate::words::{Block, Reply, Request, State, Verdict, REPLY_BYTES, VERDICT_WORDS};
 
 /// What the subject differs from.
 #[derive(Clone, Copy, PartialEq, Eq, Debug)]
@@ -40,6 +40,8 @@ pub enum Input {
     Wrapped(Box<Request>),
     /// A request's state, of which groups/order.rs asks several calls.
     State(Box<Request>),
+    /// A state and the id that `dimecandle_unplug` is asked about.
+    Unplug(Box<State>, u64),
     Script(Vec<u8>),
     /// A test of its own, which has no smaller form; it says itself what it did.
     Other(String),
@@ -118,7 +120,7 @@ impl<'a> Comparison<'a> {
         let [paper, rust, _] = &mut self.replies;
         paper.giving_back(&request.state);
         (call.paper)(&Model::PAPER, request, paper);
-        if !in_domain(request, paper) {
+        if !call_in_domain(request, paper) {
             return (paper, None);
         }
         rust.giving_back(&request.state);
@@ -140,7 +142,7 @@ impl<'a> Comparison<'a> {
         let with_rust = self.expected(request).1.is_some();
         self.with_rust += u64::from(with_rust);
         if let Err(what) = self.ask(request) {
-            return Some(Difference { against: Against::Paper, what });
+            return Some(from_the_paper(what));
         }
         let [paper, rust, subject] = &self.replies;
         if with_rust && !agrees(request, subject, rust) {
@@ -150,9 +152,9 @@ impl<'a> Comparison<'a> {
             }
             return Some(Difference { against: Against::Rust, what });
         }
-        self.other_fault += u64::from(with_rust && (rust.number, rust.id) != (paper.number, paper.id));
+        self.other_fault += u64::from(with_rust && rust.verdict() != paper.verdict());
         if subject != paper {
-            return Some(Difference { against: Against::Paper, what: show::differences(subject, paper) });
+            return Some(from_the_paper(show::differences(subject, paper)));
         }
         None
     }
@@ -179,6 +181,82 @@ impl<'a> Comparison<'a> {
         }
     }
 
+    // ** Unplug
+
+    /// Compares one answer of `dimecandle_unplug`; where that is said, the subject's own `simple` is asked beside it. The verdict of all
+    /// sides.
+    pub fn unplug(&mut self, state: &State, id: u64, beside_simple: bool) -> Result<Verdict, Box<Failure>> {
+        self.inputs += 1;
+        match self.unplugged(state, id, beside_simple) {
+            Err(difference) => Err(Box::new(Failure { input: Input::Unplug(Box::new(*state), id), difference })),
+            Ok(verdict) => {
+                self.count(verdict[0]);
+                self.accepted += u64::from(verdict[0] == 0);
+                Ok(verdict)
+            }
+        }
+    }
+
+    /// The subject's verdict, or how it differs.
+    pub fn unplugged(&mut self, state: &State, id: u64, beside_simple: bool) -> Result<Verdict, Difference> {
+        let verdict = self.ask_unplug(state, id).map_err(from_the_paper)?;
+        self.judge(state, id, verdict)?;
+        if beside_simple {
+            self.hold_beside_simple(state, id, verdict).map_err(from_the_paper)?;
+        }
+        Ok(verdict)
+    }
+
+    /// The subject's verdict. The words after it, which are lent every second time, stay as they are, and so does the state.
+    fn ask_unplug(&self, state: &State, id: u64) -> Result<Verdict, String> {
+        const STALE: u64 = 0xa5a5_a5a5_a5a5_a5a5;
+        const AFTER: usize = 3;
+        let mut words = [STALE; VERDICT_WORDS + AFTER];
+        let lent = VERDICT_WORDS + self.inputs as usize % 2 * AFTER;
+        let given = *state;
+        let done = self.subject.unplug(given.words(), id, &mut words[..lent]);
+        let (verdict, after) = words.split_first_chunk().expect("a verdict has fewer words");
+        if done != 0 {
+            return Err(format!("dimecandle_unplug returned {done} and not 0"));
+        }
+        if after.iter().any(|&word| word != STALE) {
+            return Err("words after the verdict were written".to_string());
+        }
+        if given != *state {
+            return Err("the state was written".to_string());
+        }
+        Ok(*verdict)
+    }
+
+    /// Holds a verdict against the Rust's and the paper's.
+    pub fn judge(&mut self, state: &State, id: u64, verdict: Verdict) -> Result<(), Difference> {
+        let paper = paper_unplug(&Model::PAPER, state, id);
+        if in_domain(state, paper[0]) {
+            self.with_rust += 1;
+            let rust = rust_unplug(&mut self.rust, state, id);
+            if verdict != rust && !same_group(state, false, verdict, rust) {
+                let as_the_paper = if verdict == paper { AS_THE_PAPER } else { "" };
+                let what = format!("{}{as_the_paper}", show::verdicts(verdict, rust));
+                return Err(Difference { against: Against::Rust, what });
+            }
+            self.other_fault += u64::from(rust != paper);
+        }
+        if verdict != paper {
+            return Err(from_the_paper(show::verdicts(verdict, paper)));
+        }
+        Ok(())
+    }
+
+    /// "the number and id returned equal those of `simple` with that single removal": here of the subject's own.
+    fn hold_beside_simple(&mut self, state: &State, id: u64, verdict: Verdict) -> Result<(), String> {
+        self.ask(&removal(state, id))?;
+        let simple = self.answer().verdict();
+        if verdict != simple {
+            return Err(format!("beside dimecandle_call's simple, {}", show::verdicts(verdict, simple)));
+        }
+        Ok(())
+    }
+
     // ** Scripts
 
     /// Compares one script: with an output of the listing's length, with a longer one, and with one that is a byte short.
@@ -199,7 +277,7 @@ impl<'a> Comparison<'a> {
             self.count(19);
             let untouched = |room| self.replay(script, room, Err(TOO_LONG));
             let what = [0, 1, 100_000].into_iter().find_map(untouched)?;
-            return Some(Difference { against: Against::Paper, what });
+            return Some(from_the_paper(what));
         }
         self.with_rust += 1;
         let (rust, paper) = (rust_listing(script), Model::PAPER.listing(script));
@@ -213,7 +291,7 @@ impl<'a> Comparison<'a> {
                 }
                 Some(Difference { against: Against::Rust, what })
             }
-            (None, from_paper) => from_paper.map(|what| Difference { against: Against::Paper, what }),
+            (None, from_paper) => from_paper.map(from_the_paper),
         }
     }
 
@@ -275,7 +353,11 @@ impl Room {
 
 /// Equal word by word, or both refused for faults of the same group.
 pub fn agrees(request: &Request, subject: &Reply, rust: &Reply) -> bool {
-    let (one, other) = ((subject.number, subject.id), (rust.number, rust.id));
-    let rest_equal = subject.words()[2..] == rust.words()[2..];
-    rest_equal && (one == other || same_group(request, one, other))
+    let (one, other) = (subject.verdict(), rust.verdict());
+    let rest_equal = subject.words()[VERDICT_WORDS..] == rust.words()[VERDICT_WORDS..];
+    rest_equal && (one == other || same_group(&request.state, request.call == LEAVE_JOINT, one, other))
+}
+
+fn from_the_paper(what: String) -> Difference {
+    Difference { against: Against::Paper, what }
 }

@@ -1,5 +1,5 @@
-//! The static libraries on a processor that is not an x86-64: each in a program of its own (emulated.c, which also has the frames), run by
-//! the emulator and asked through pipes. The entries' names are here, in the place of linked libraries.
+//! The static libraries on a processor that is not an x86-64: each entry in a program of its own (emulated.c, which also has the frames),
+//! run by the emulator and asked through pipes. The entries' names are here, in the place of linked libraries.
 
 use std::io::{Read, Write};
 use std::process::{Child, Command, Stdio};
@@ -8,21 +8,33 @@ use std::sync::atomic::{AtomicBool, AtomicUsize, Ordering::Relaxed};
 use std::sync::{LazyLock, Mutex};
 
 #[cfg(libcalls)]
-static CALLS: LazyLock<Mutex<Program>> = LazyLock::new(|| Program::start(env!("CALLS_PROGRAM")));
+static CALL: LazyLock<Mutex<Program>> = LazyLock::new(|| Program::start(env!("DIMECANDLE_CALL_PROGRAM")));
+
+#[cfg(libcalls)]
+static UNPLUG: LazyLock<Mutex<Program>> = LazyLock::new(|| Program::start(env!("DIMECANDLE_UNPLUG_PROGRAM")));
 
 #[cfg(liblisting)]
-static LISTING: LazyLock<Mutex<Program>> = LazyLock::new(|| Program::start(env!("LISTING_PROGRAM")));
+static REPLAY: LazyLock<Mutex<Program>> = LazyLock::new(|| Program::start(env!("DIMECANDLE_REPLAY_PROGRAM")));
 
 #[cfg(libcalls)]
 #[no_mangle]
 unsafe extern "C" fn dimecandle_call(request: *const u8, n: usize, reply: *mut u8, m: usize) -> u64 {
-    ask(&CALLS, slice::from_raw_parts(request, n), slice::from_raw_parts_mut(reply, m))
+    ask(&CALL, slice::from_raw_parts(request, n), slice::from_raw_parts_mut(reply, m))
+}
+
+/// The given bytes are the id and then the state, the lent ones the verdict.
+#[cfg(libcalls)]
+#[no_mangle]
+unsafe extern "C" fn dimecandle_unplug(state: *const u64, n: usize, id: u64, verdict: *mut u64, m: usize) -> u64 {
+    let state = slice::from_raw_parts(state.cast::<u8>(), 8 * n);
+    let given = [&id.to_le_bytes()[..], state].concat();
+    ask(&UNPLUG, &given, slice::from_raw_parts_mut(verdict.cast(), 8 * m))
 }
 
 #[cfg(liblisting)]
 #[no_mangle]
 unsafe extern "C" fn dimecandle_replay(script: *const u8, n: usize, out: *mut u8, m: usize) -> u64 {
-    ask(&LISTING, slice::from_raw_parts(script, n), slice::from_raw_parts_mut(out, m))
+    ask(&REPLAY, slice::from_raw_parts(script, n), slice::from_raw_parts_mut(out, m))
 }
 
 /// Whether the stack of what is asked is measured, and the most that was needed since.

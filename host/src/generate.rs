@@ -141,6 +141,27 @@ fn placed(random: &mut Random, ids: &[u64], joint: bool, both: &[u64]) -> State 
     parts.state(flag, random)
 }
 
+/// A state over these ids that is not joint and has one incoming voter, the others being learners: in order, if none of them is 0; over no
+/// ids, the empty one.
+pub fn one_voter(random: &mut Random, ids: &[u64]) -> State {
+    let voter = random.below(ids.len().max(1));
+    votes_alone(random, voter, ids)
+}
+
+/// The same over 0 and these ids, with 0 as the voter.
+pub fn zero_votes(random: &mut Random, ids: &[u64]) -> State {
+    let ids: Vec<u64> = [0].iter().chain(ids).take(CAPACITY).copied().collect();
+    votes_alone(random, 0, &ids)
+}
+
+fn votes_alone(random: &mut Random, voter: usize, ids: &[u64]) -> State {
+    let mut parts = Parts::default();
+    for (place, &id) in ids.iter().enumerate() {
+        parts.put(id, &[if place == voter { INCOMING } else { LEARNERS }], true);
+    }
+    parts.state(0, random)
+}
+
 /// A well-formed state over these ids, each in any of the sets; mostly with faults of the check, idle boxes or an id 0.
 pub fn formed(random: &mut Random, ids: &[u64]) -> State {
     let parts = scattered(random, ids);
@@ -215,6 +236,19 @@ fn some_id(random: &mut Random, ids: &[u64]) -> u64 {
         2 => random.next() % 80,
         _ if ids.is_empty() => 1,
         _ => random.pick(ids),
+    }
+}
+
+/// An id to ask a state about: of one of its sets or tracked, else 0, the largest or a new one.
+pub fn id_asked(random: &mut Random, state: &State) -> u64 {
+    let [incoming, outgoing, learners, staged] = state.conf.sets();
+    let known = random.pick(&[incoming, outgoing, learners, staged, &state.tracked]).used();
+    match random.below(8) {
+        0 => 0,
+        1 => u64::MAX,
+        2 => random.number(),
+        _ if known.is_empty() => random.next() % 80,
+        _ => random.pick(known),
     }
 }
 
@@ -306,6 +340,20 @@ fn damage_set(random: &mut Random, request: &mut Request) {
         1 => request.state.conf.sets_mut().into_iter().nth(which).expect("one of four"),
         _ => request.conf.sets_mut().into_iter().nth(which).expect("one of four"),
     };
+    damage_ids(random, set);
+}
+
+/// Makes a state malformed, mostly.
+pub fn damage_state(random: &mut Random, state: &mut State) {
+    let which = random.below(4);
+    match random.below(6) {
+        0 => damage_records(random, state),
+        1 => damage_ids(random, &mut state.tracked),
+        _ => damage_ids(random, state.conf.sets_mut()[which]),
+    }
+}
+
+fn damage_ids(random: &mut Random, set: &mut Ids) {
     let count = set.used().len();
     match random.below(4) {
         0 => set.count = over(random, CAPACITY),

@@ -10,6 +10,7 @@ mod random;
 mod restores;
 pub mod scripts;
 mod states;
+mod unplug;
 pub mod wrapper;
 
 use crate::compare::{Compared, Comparison};
@@ -38,8 +39,9 @@ impl Size {
 #[derive(Clone, Copy, PartialEq, Eq)]
 pub enum Entry {
     Call,
+    Unplug,
     Replay,
-    /// `dimecandle_call` through dimecandle.rs: always the linked one
+    /// those of libcalls.a through dimecandle.rs: always the linked ones
     Wrapper,
 }
 
@@ -50,7 +52,7 @@ pub struct Group {
 }
 
 #[rustfmt::skip]
-pub const GROUPS: [Group; 31] = [
+pub const GROUPS: [Group; 37] = [
     Group { name: "calls: the examples of document 01", entry: Entry::Call, run: examples::examples },
     Group { name: "calls: every state over two ids, every list of up to two changes", entry: Entry::Call, run: states::two_ids },
     Group { name: "calls: every state over three ids, every single change", entry: Entry::Call, run: states::three_ids },
@@ -73,6 +75,12 @@ pub const GROUPS: [Group; 31] = [
     Group { name: "in order: every state over two and three ids, left, written out and restored", entry: Entry::Call, run: order::small },
     Group { name: "in order: random states, left, written out and restored", entry: Entry::Call, run: order::random },
     Group { name: "bytes: lengths, unknown calls, words that no field can hold", entry: Entry::Call, run: bytes::bytes },
+    Group { name: "unplug: every state over two ids, every id", entry: Entry::Unplug, run: unplug::two_ids },
+    Group { name: "unplug: every state over three ids", entry: Entry::Unplug, run: unplug::three_ids },
+    Group { name: "unplug: random states in order", entry: Entry::Unplug, run: unplug::in_order },
+    Group { name: "unplug: random states with ids of two roles, faults, idle boxes, id 0", entry: Entry::Unplug, run: unplug::faulty },
+    Group { name: "unplug: random malformed states", entry: Entry::Unplug, run: unplug::malformed },
+    Group { name: "unplug: lengths, words that no field can hold", entry: Entry::Unplug, run: unplug::words },
     Group { name: "wrapper: dimecandle.rs on random states", entry: Entry::Wrapper, run: wrapper::wrapper },
     Group { name: "scripts: the listing of document 01", entry: Entry::Replay, run: scripts::example },
     Group { name: "scripts: every one of a few records over two ids", entry: Entry::Replay, run: scripts::every },

@@ -88,7 +88,7 @@ impl Options {
 /// Why the library of an entry is not there; empty where it is.
 fn missing(entry: Entry) -> &'static str {
     match entry {
-        Entry::Call | Entry::Wrapper => CALLS_MISSING,
+        Entry::Call | Entry::Unplug | Entry::Wrapper => CALLS_MISSING,
         Entry::Replay => LISTING_MISSING,
     }
 }
@@ -143,7 +143,8 @@ fn run_group(comparison: &mut Comparison, group: &Group, options: &Options) -> b
     match result {
         Ok(()) => {
             let (rust, accepted) = (comparison.with_rust, comparison.accepted);
-            let accepted = if group.entry == Entry::Call { format!(", {accepted} accepted") } else { String::new() };
+            let counted = matches!(group.entry, Entry::Call | Entry::Unplug);
+            let accepted = if counted { format!(", {accepted} accepted") } else { String::new() };
             println!("passed  {}: {inputs} inputs, {rust} with the Rust{accepted}, {seconds:.1} s", group.name);
             true
         }

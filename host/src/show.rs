@@ -3,7 +3,7 @@
 use crate::calls::{self, Takes};
 use crate::compare::Input;
 use crate::script::RECORD;
-use crate::words::{Block, Conf, ConfState, Entry, Ids, List, Log, Record, Reply, Request, State, REMOVE};
+use crate::words::{Block, Conf, ConfState, Entry, Ids, List, Log, Record, Reply, Request, State, Verdict, REMOVE};
 use std::fmt::Write;
 
 /// An input, a line for each of its parts.
@@ -12,9 +12,14 @@ pub fn input(input: &Input) -> String {
         Input::Call(words) => request(words),
         Input::Wrapped(words) => format!("through dimecandle.rs: {}", request(words)),
         Input::State(words) => format!("asked of in order, left, written out and restored: {}", state(&words.state)),
+        Input::Unplug(words, id) => unplug(words, *id),
         Input::Script(bytes) => script(bytes),
         Input::Other(text) => text.clone(),
     }
+}
+
+pub fn unplug(words: &State, id: u64) -> String {
+    format!("unplug {id} of {}", state(words))
 }
 
 pub fn request(request: &Request) -> String {
@@ -104,6 +109,11 @@ fn entry(entry: &Entry) -> String {
 
 fn spaced(items: impl Iterator<Item = String>) -> String {
     format!("({})", items.collect::<Vec<_>>().join(" "))
+}
+
+/// Two verdicts: the subject's first.
+pub fn verdicts([number, id]: Verdict, expected: Verdict) -> String {
+    format!("number: subject {number} id {id}, expected {} id {}", expected[0], expected[1])
 }
 
 /// Where two replies differ: the subject's first.

@@ -1,9 +1,10 @@
 //! Makes an input that shows a difference smaller, as long as it shows one: shorter lists, fewer ids, smaller numbers.
 
+use crate::calls::removal;
 use crate::compare::{Against, Comparison, Difference, Input, Room};
 use crate::groups::{order, wrapper};
 use crate::script::RECORD;
-use crate::words::{Block, Entry, Ids, List, Log, Record, Request, CAPACITY, LIST_PLACES, LOG_PLACES};
+use crate::words::{Block, Entry, Ids, List, Log, Record, Request, CAPACITY, LIST_PLACES, LOG_PLACES, REMOVE_NODE};
 use std::collections::BTreeMap;
 
 /// The smallest input found that differs from the same side, and how.
@@ -25,12 +26,25 @@ pub fn smallest(comparison: &mut Comparison, input: Input, against: Against) -> 
             let difference = same(order::difference(comparison, &small));
             (Input::State(small), difference)
         }
+        Input::Unplug(state, id) => {
+            let small = call(*removal(&state, id), &mut |tried| same(unplug_difference(comparison, tried)).is_some());
+            let difference = same(unplug_difference(comparison, &small));
+            (Input::Unplug(Box::new(small.state), small.list.ids[0]), difference)
+        }
         Input::Script(bytes) => {
             let small = script(bytes, &mut |tried| same(comparison.script_difference(tried, &Room::ALL)).is_some());
             let difference = same(comparison.script_difference(&small, &Room::ALL));
             (Input::Script(small), difference)
         }
         other => (other, None),
+    }
+}
+
+/// How `dimecandle_unplug` differs on a request's state and the id of its single removal; of another list, not at all.
+fn unplug_difference(comparison: &mut Comparison, request: &Request) -> Option<Difference> {
+    match request.list.changes().collect::<Vec<_>>()[..] {
+        [(id, REMOVE_NODE)] => comparison.unplugged(&request.state, id, true).err(),
+        _ => None,
     }
 }
 

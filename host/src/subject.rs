@@ -1,10 +1,13 @@
-//! What is compared with the Rust: the two C entries, on bytes.
+//! What is compared with the Rust: the three C entries, two on bytes and one on words.
 
 use crate::model::Model;
 
 pub trait Subject {
     /// `dimecandle_call` of the static library `calls`: docs/EMBEDDING.md.
     fn call(&self, request: &[u8], reply: &mut [u8]) -> u64;
+
+    /// `dimecandle_unplug` of the same library.
+    fn unplug(&self, state: &[u64], id: u64, verdict: &mut [u64]) -> u64;
 
     /// `dimecandle_replay` of the static library `listing`: document 01, "The replay script".
     fn replay(&self, script: &[u8], out: &mut [u8]) -> u64;
@@ -34,6 +37,7 @@ pub fn say_missing(meaning: &str) {
 mod c {
     extern "C" {
         pub fn dimecandle_call(request: *const u8, request_len: usize, reply: *mut u8, reply_len: usize) -> u64;
+        pub fn dimecandle_unplug(state: *const u64, state_len: usize, id: u64, verdict: *mut u64, verdict_len: usize) -> u64;
         pub fn dimecandle_replay(script: *const u8, n: usize, out: *mut u8, m: usize) -> u64;
     }
 }
@@ -41,6 +45,10 @@ mod c {
 impl Subject for Linked {
     fn call(&self, request: &[u8], reply: &mut [u8]) -> u64 {
         unsafe { c::dimecandle_call(request.as_ptr(), request.len(), reply.as_mut_ptr(), reply.len()) }
+    }
+
+    fn unplug(&self, state: &[u64], id: u64, verdict: &mut [u64]) -> u64 {
+        unsafe { c::dimecandle_unplug(state.as_ptr(), state.len(), id, verdict.as_mut_ptr(), verdict.len()) }
     }
 
     fn replay(&self, script: &[u8], out: &mut [u8]) -> u64 {
@@ -51,6 +59,10 @@ impl Subject for Linked {
 impl Subject for Model {
     fn call(&self, request: &[u8], reply: &mut [u8]) -> u64 {
         Model::call(self, request, reply)
+    }
+
+    fn unplug(&self, state: &[u64], id: u64, verdict: &mut [u64]) -> u64 {
+        Model::unplug(self, state, id, verdict)
     }
 
     fn replay(&self, script: &[u8], out: &mut [u8]) -> u64 {
@@ -68,6 +80,12 @@ mod in_place {
     #[no_mangle]
     unsafe extern "C" fn dimecandle_call(request: *const u8, n: usize, reply: *mut u8, m: usize) -> u64 {
         Model::PAPER.call(slice::from_raw_parts(request, n), slice::from_raw_parts_mut(reply, m))
+    }
+
+    #[cfg(not(libcalls))]
+    #[no_mangle]
+    unsafe extern "C" fn dimecandle_unplug(state: *const u64, n: usize, id: u64, verdict: *mut u64, m: usize) -> u64 {
+        Model::PAPER.unplug(slice::from_raw_parts(state, n), id, slice::from_raw_parts_mut(verdict, m))
     }
 
     #[cfg(not(liblisting))]

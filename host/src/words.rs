@@ -1,4 +1,4 @@
-//! The byte layout of `dimecandle_call`: docs/EMBEDDING.md, block by block.
+//! The byte layout of `dimecandle_call`, whose state is also that of `dimecandle_unplug`: docs/EMBEDDING.md, block by block.
 //!
 //! Every block is a `#[repr(C)]` struct of `u64`, so a value of it is its own bytes on a little-endian processor. A flag, a state or a
 //! kind is kept as the whole word that it travels in: these types also hold what is malformed, and words that no field can hold.
@@ -113,9 +113,15 @@ pub struct Reply {
     pub idle: u64,
 }
 
+/// Number and id: of `dimecandle_unplug` all that it answers, both 0 where a box can be unplugged.
+pub type Verdict = [u64; VERDICT_WORDS];
+
 pub const REQUEST_BYTES: usize = 20_216;
 pub const REPLY_BYTES: usize = 13_960;
+pub const STATE_WORDS: usize = 967;
+pub const VERDICT_WORDS: usize = 2;
 const _: () = assert!(size_of::<Request>() == REQUEST_BYTES && size_of::<Reply>() == REPLY_BYTES);
+const _: () = assert!(size_of::<State>() == 8 * STATE_WORDS);
 
 /// A struct of nothing but `u64`.
 ///
@@ -266,6 +272,10 @@ impl Request {
 }
 
 impl Reply {
+    pub fn verdict(&self) -> Verdict {
+        [self.number, self.id]
+    }
+
     /// What a refusal gives back, before its number and id: the state given, an empty log, empty lists, no idle entry.
     pub fn giving_back(&mut self, state: &State) {
         (self.number, self.id, self.yes, self.idle) = (0, 0, 0, 0);

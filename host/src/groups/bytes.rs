@@ -6,7 +6,7 @@ use crate::calls::CALLS;
 use crate::compare::{Against, Compared, Comparison, Difference, Failure, Input};
 use crate::generate;
 use crate::random::Random;
-use crate::words::{Block, Reply, Request, CAPACITY, LIST_PLACES, LOG_PLACES, REPLY_BYTES, REQUEST_BYTES};
+use crate::words::{Block, Request, CAPACITY, LIST_PLACES, LOG_PLACES, REPLY_BYTES, REQUEST_BYTES, STATE_WORDS};
 use std::mem::offset_of;
 
 pub fn bytes(comparison: &mut Comparison, random: &mut Random, size: Size) -> Compared {
@@ -88,6 +88,13 @@ fn narrow_words() -> Vec<(usize, u64)> {
     words
 }
 
+/// Those of a state, by their places in it.
+pub fn narrow_words_of_state() -> Vec<(usize, u64)> {
+    let first = offset_of!(Request, state) / 8;
+    let of_state = |(word, _): &(usize, u64)| (first..first + STATE_WORDS).contains(word);
+    narrow_words().into_iter().filter(of_state).map(|(word, largest)| (word - first, largest)).collect()
+}
+
 /// Every other word is any number, in every call: random words everywhere but in the narrow ones.
 fn unused_places(comparison: &mut Comparison, random: &mut Random, size: Size) -> Compared {
     let narrow = narrow_words();
@@ -106,24 +113,44 @@ fn unused_places(comparison: &mut Comparison, random: &mut Random, size: Size) -
     Ok(())
 }
 
-/// Runs the entry, and looks at the value and at the lent bytes: the request stays, and of the reply with 1 to 4 all, with 0 what is after
-/// it.
 fn returns(comparison: &mut Comparison, expected: u64, request: &[u8], reply_len: usize) -> Compared {
-    comparison.inputs += 1;
-    let request_before = request.to_vec();
-    let before: Vec<u8> = (0..reply_len).map(|place| (place as u8).wrapping_mul(29) | 1).collect();
-    let mut reply = before.clone();
-    let returned = comparison.subject.call(request, &mut reply);
-    let kept = if expected == 0 { std::mem::size_of::<Reply>() } else { 0 };
-    let what = if returned != expected {
-        format!("it returned {returned} and not {expected}")
-    } else if request != request_before {
-        "the request was written".to_string()
-    } else if reply[kept.min(reply_len)..] != before[kept.min(reply_len)..] {
-        "lent bytes were written".to_string()
-    } else {
-        return Ok(());
-    };
-    let input = Input::Other(format!("a request of {} bytes, a reply of {reply_len}", request.len()));
-    Err(Box::new(Failure { input, difference: Difference { against: Against::Paper, what } }))
+    let lent: Vec<u8> = (0..reply_len).map(|place| (place as u8).wrapping_mul(29) | 1).collect();
+    let returned = Returned { expected, given: request, lent: &lent, answer: REPLY_BYTES };
+    let subject = comparison.subject;
+    let input = || format!("a request of {} bytes, a reply of {reply_len}", request.len());
+    returned.compared(comparison, |request, reply| subject.call(request, reply), input)
+}
+
+/// What an entry has to return, and the bytes or words that it is given and lent; its answer is so many of these.
+pub struct Returned<'a, T> {
+    pub expected: u64,
+    pub given: &'a [T],
+    pub lent: &'a [T],
+    pub answer: usize,
+}
+
+impl<T: Copy + PartialEq> Returned<'_, T> {
+    /// Runs the entry, and looks at the value and at what was lent: what was given stays, and of the lent with a refusal all, with 0 what is
+    /// after the answer.
+    pub fn compared(
+        self,
+        comparison: &mut Comparison,
+        entry: impl FnOnce(&[T], &mut [T]) -> u64,
+        input: impl FnOnce() -> String,
+    ) -> Compared {
+        comparison.inputs += 1;
+        let (given, mut lent) = (self.given.to_vec(), self.lent.to_vec());
+        let returned = entry(&given, &mut lent);
+        let kept = if self.expected == 0 { self.answer } else { 0 };
+        let what = if returned != self.expected {
+            format!("it returned {returned} and not {}", self.expected)
+        } else if given != self.given {
+            "what was given was written".to_string()
+        } else if lent[kept..] != self.lent[kept..] {
+            "what was lent was written".to_string()
+        } else {
+            return Ok(());
+        };
+        Err(Box::new(Failure { input: Input::Other(input()), difference: Difference { against: Against::Paper, what } }))
+    }
 }

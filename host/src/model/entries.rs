@@ -1,9 +1,11 @@
-//! The two C entries, on the model: docs/EMBEDDING.md, and document 01's last lines on the replay script.
+//! The three C entries, on the model: docs/EMBEDDING.md, and document 01's last lines on the replay script.
 
 use super::{Model, Replayed, Wrong};
 use crate::calls;
 use crate::script::{listing, LONGEST_SCRIPT, NO_ROOM, TOO_LONG};
-use crate::words::{Block, Conf, List, Log, Reply, Request, State, LIST_PLACES, REPLY_BYTES, REQUEST_BYTES};
+use crate::words::{
+    Block, Conf, List, Log, Reply, Request, State, LIST_PLACES, REPLY_BYTES, REQUEST_BYTES, STATE_WORDS, VERDICT_WORDS,
+};
 
 impl Model {
     /// `dimecandle_call`
@@ -30,6 +32,23 @@ impl Model {
             answer.idle = zeros(&words.list);
         }
         reply[..REPLY_BYTES].copy_from_slice(answer.bytes());
+        0
+    }
+
+    /// `dimecandle_unplug`
+    pub fn unplug(&self, state: &[u64], id: u64, verdict: &mut [u64]) -> u64 {
+        if state.len() != STATE_WORDS {
+            return 1;
+        }
+        if verdict.len() < VERDICT_WORDS {
+            return 2;
+        }
+        let mut words = State::zero();
+        words.words_mut().copy_from_slice(state);
+        if !state_holdable(&words) {
+            return 4;
+        }
+        verdict[..VERDICT_WORDS].copy_from_slice(&calls::paper_unplug(self, &words, id));
         0
     }
 

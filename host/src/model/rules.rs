@@ -403,6 +403,31 @@ impl Model {
         self.faults(&self.left(&state.conf), &|id| state.tracked.contains_key(&id) && !gone.contains(&id))
     }
 
+    // ** unplug
+
+    /// Document 02, d): "Answer from the box's own standing, joint or not, and whether another incoming voter exists"; "For every state in
+    /// order and every id the number and id returned equal those of `simple` with that single removal. Any other state gets the full
+    /// call's answer."
+    pub fn can_unplug(&self, state: &State, id: u64) -> Result<(), Refusal> {
+        if !self.in_order(state) && !self.has(Wrong::UnplugWithoutTheCheck) {
+            let model = if self.has(Wrong::UnplugZeroIsABox) { Model::with(Wrong::ZeroIsABox) } else { *self };
+            return model.simple(state, &[Change { id, kind: Kind::RemoveNode }]).map(|_| ());
+        }
+        refuse(state.conf.joint() && !self.has(Wrong::UnplugWhileJoint), 6)?;
+        refuse(!self.another_voter(&state.conf, id), 17)
+    }
+
+    /// "whether another incoming voter exists"
+    fn another_voter(&self, conf: &Conf, id: u64) -> bool {
+        let another = |set: &Set| set.iter().any(|&other| other != id);
+        if self.has(Wrong::UnplugOneVoterIsTheLast) {
+            return conf.incoming.len() > 1;
+        }
+        another(&conf.incoming)
+            || (self.has(Wrong::UnplugCountsLearners) && another(&conf.learners))
+            || (self.has(Wrong::UnplugOfNoVoter) && !conf.incoming.contains(&id))
+    }
+
     // ** apply_conf, restore_step_by_step, restore
 
     /// "`apply_conf`: sets the configuration, then takes log entries in order. Add writes a fresh record over any old one; Remove of an

@@ -1,5 +1,6 @@
 //! Rules that are wrong on purpose. Document 01, "Errors a porter would make", and others of the kind, also for the count of document 02's
-//! b), the two restores of its g) and the part that its h) adds to in order. Each is one test in model/rules.rs or model/entries.rs.
+//! b), the question of its d), the two restores of its g) and the part that its h) adds to in order. Each is one test in model/rules.rs or
+//! model/entries.rs.
 
 /// One wrong rule; `sentence` says which.
 #[derive(Clone, Copy, Debug, PartialEq, Eq)]
@@ -41,12 +42,18 @@ pub enum Wrong {
     LeastStagedAlone,
     StagedOutOfOrder,
     TwoRolesFailTheCheck,
+    UnplugWhileJoint,
+    UnplugCountsLearners,
+    UnplugOneVoterIsTheLast,
+    UnplugOfNoVoter,
+    UnplugZeroIsABox,
+    UnplugWithoutTheCheck,
 }
 
 use Wrong::*;
 
 impl Wrong {
-    pub const ALL: [Wrong; 37] = [
+    pub const ALL: [Wrong; 43] = [
         CountsChanges,
         TwelveAsTheTextSays,
         CancelsInTheLog,
@@ -84,6 +91,12 @@ impl Wrong {
         LeastStagedAlone,
         StagedOutOfOrder,
         TwoRolesFailTheCheck,
+        UnplugWhileJoint,
+        UnplugCountsLearners,
+        UnplugOneVoterIsTheLast,
+        UnplugOfNoVoter,
+        UnplugZeroIsABox,
+        UnplugWithoutTheCheck,
     ];
 
     pub fn sentence(self) -> &'static str {
@@ -125,6 +138,12 @@ impl Wrong {
             LeastStagedAlone => "in order asks of the least staged id alone whether it is an incoming voter",
             StagedOutOfOrder => "in order asks that no staged id is an outgoing voter, and so lets in none",
             TwoRolesFailTheCheck => "the check refuses a staged id that is an incoming voter, with 10",
+            UnplugWhileJoint => "unplug does not ask whether the state is joint",
+            UnplugCountsLearners => "unplug takes a learner for another voter",
+            UnplugOneVoterIsTheLast => "unplug says 17 wherever there is one incoming voter, whatever the box",
+            UnplugOfNoVoter => "unplug accepts every box that is no incoming voter, also where there is none at all",
+            UnplugZeroIsABox => "unplug takes id 0 for a box",
+            UnplugWithoutTheCheck => "unplug answers every state as one in order, also where the check fails",
         }
     }
 

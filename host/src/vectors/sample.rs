@@ -26,7 +26,7 @@ const SCRIPTS_OF_A_GROUP: usize = 10;
 
 pub fn take() -> Taken {
     let mut taken = Taken { calls: vec![], scripts: vec![] };
-    for group in GROUPS.iter().filter(|group| group.entry != Entry::Wrapper) {
+    for group in GROUPS.iter().filter(|group| matches!(group.entry, Entry::Call | Entry::Replay)) {
         let of_a_kind = if group.name.contains("examples") { EXAMPLES } else { CALLS_OF_A_KIND };
         let recorder = Recorder { of_a_kind, chosen: RefCell::new(Chosen::new(group.name)) };
         let mut random = Random::new(1, group.name);
@@ -100,6 +100,11 @@ impl Subject for Recorder {
             keep(kept, *seen, self.of_a_kind, random, || words);
         }
         value
+    }
+
+    /// Not kept: a case is a call or a script.
+    fn unplug(&self, state: &[u64], id: u64, verdict: &mut [u64]) -> u64 {
+        Model::PAPER.unplug(state, id, verdict)
     }
 
     fn replay(&self, script: &[u8], out: &mut [u8]) -> u64 {
