@@ -1,15 +1,18 @@
 //! Times both sides on the same calls and scripts. The Rust is asked on its own values; the other side is asked through its C entries, so
-//! a call's time has the reading of the request's 20,216 bytes and the writing of the reply's 13,960 in it. A script has neither.
+//! a call's time has the reading of the request's 20,216 bytes and the writing of the reply's 13,960 in it. A script has neither, and
+//! unplug only the reading of the state's 7,736. A second table sets unplug beside the call that it stands for.
 //! Times are of the processor, so that other programs on the machine do not count; the shortest of many batches is shown.
 
-use crate::calls::{APPLY_CONF, CHECK, ENTER_JOINT, LEAVE_JOINT, RESTORE, SIMPLE};
+use crate::calls::{removal, APPLY_CONF, CHECK, ENTER_JOINT, LEAVE_JOINT, RESTORE, SIMPLE};
 use crate::compare::Comparison;
 use crate::groups::scripts::script;
 use crate::oracle::{self, Replaying};
 use crate::run::CANNOT_RUN;
 use crate::script::{listing, ENTER, LEAVE, LONGEST_SCRIPT, RECORD, SIMPLE as RUN};
 use crate::subject::{say_missing, Linked, Subject, EMULATED};
-use crate::words::{Block, Change, Ids, List, Record, Request, ADD_LEARNER_NODE, ADD_NODE, REMOVE_NODE, REPLY_BYTES};
+use crate::words::{
+    Block, Change, Ids, List, Record, Request, ADD_LEARNER_NODE, ADD_NODE, REMOVE_NODE, REPLY_BYTES, VERDICT_WORDS,
+};
 use raft::eraftpb::ConfChangeSingle;
 use raft::{Changer, ProgressTracker};
 use std::hint::black_box;
@@ -22,17 +25,25 @@ pub fn run() -> ExitCode {
         return ExitCode::from(CANNOT_RUN);
     }
     say_missing("its times are those of the model of the paper");
-    println!("{:52}{:>12}{:>12}{:>9}", "", "Rust", "other", "ratio");
+    header("Rust", "other");
     the_layout();
-    for size in [3, 5, 16, 64] {
+    for size in SIZES {
         simple_and_apply(size);
         enter_and_leave(size);
+        unplug(size);
         restore(size);
         restore_joint(size);
         scripts(size);
     }
+    println!();
+    header("simple", "unplug");
+    for size in SIZES {
+        unplug_beside_simple(size);
+    }
     ExitCode::SUCCESS
 }
+
+const SIZES: [usize; 4] = [3, 5, 16, 64];
 
 /// The shortest time of one of so many things done by `work`, over many batches of some two milliseconds.
 fn time(things: usize, mut work: impl FnMut()) -> Duration {
@@ -70,10 +81,14 @@ fn processor_time() -> Duration {
     Duration::new(time.seconds as u64, time.nanoseconds as u32)
 }
 
-fn report(name: &str, rust: Duration, other: Duration) {
+fn header(one: &str, other: &str) {
+    println!("{:52}{one:>12}{other:>12}{:>9}", "", "ratio");
+}
+
+fn report(name: &str, one: Duration, other: Duration) {
     let micros = |time: Duration| time.as_secs_f64() * 1e6;
-    let ratio = micros(other) / micros(rust);
-    println!("{name:52}{:>9.2} µs{:>9.2} µs{ratio:>9.2}", micros(rust), micros(other));
+    let ratio = micros(other) / micros(one);
+    println!("{name:52}{:>9.2} µs{:>9.2} µs{ratio:>9.2}", micros(one), micros(other));
 }
 
 // ** Calls
@@ -94,17 +109,47 @@ fn group(size: usize) -> Box<Request> {
 
 /// What a call costs that has next to nothing to do: reading and writing the words.
 fn the_layout() {
-    let request = Request::new(CHECK);
     let tracker = ProgressTracker::new(0);
     let rust = time(1, || {
         let _ = black_box(Changer::new(black_box(&tracker)).check());
     });
+    report("check of the fresh state: the words alone", rust, time_of_call(&Request::new(CHECK)));
+}
+
+fn time_of_call(request: &Request) -> Duration {
     let mut reply = vec![0; REPLY_BYTES];
-    let other = time(1, || {
+    time(1, || {
         Linked.call(black_box(request.bytes()), &mut reply);
         black_box(&reply);
+    })
+}
+
+/// Whether the last voter of a group can be unplugged. The Rust has no such question: it is asked for `simple` with that removal.
+fn unplug(size: usize) {
+    let request = last_removed(size);
+    let (tracker, list) = (oracle::tracker(&request.state), oracle::changes(request.list.changes()));
+    let rust = time(1, || {
+        let _ = black_box(Changer::new(black_box(&tracker)).simple(black_box(&list)));
     });
-    report("check of the fresh state: the words alone", rust, other);
+    report(&format!("unplug, group of {size}"), rust, time_of_unplug(&request));
+}
+
+/// The same beside `simple` by `dimecandle_call`, which answers it too.
+fn unplug_beside_simple(size: usize) {
+    let request = last_removed(size);
+    report(&format!("one voter removed, group of {size}"), time_of_call(&request), time_of_unplug(&request));
+}
+
+fn last_removed(size: usize) -> Box<Request> {
+    removal(&group(size).state, size as u64)
+}
+
+fn time_of_unplug(request: &Request) -> Duration {
+    let mut verdict = [0; VERDICT_WORDS];
+    time(1, || {
+        Linked.unplug(black_box(request.state.words()), request.list.ids[0], &mut verdict);
+        black_box(&verdict);
+    })
 }
 
 /// A call of a cycle; each is followed by its `apply_conf`.
@@ -212,12 +257,7 @@ fn restoring(name: &str, mut request: Box<Request>) {
         raft::restore(&mut tracker, 10, black_box(&lists)).expect("the lists are accepted");
         black_box(&tracker);
     });
-    let mut reply = vec![0; REPLY_BYTES];
-    let other = time(1, || {
-        Linked.call(black_box(request.bytes()), &mut reply);
-        black_box(&reply);
-    });
-    report(name, rust, other);
+    report(name, rust, time_of_call(&request));
 }
 
 // ** Scripts

@@ -215,6 +215,17 @@ impl Tracker {
         refused
     }
 
+    /// Whether this one box can be removed by `simple` now; number and id are those that `simple` with that removal would be refused with.
+    /// No configuration is made to find out.
+    pub fn can_unplug(&self, id: u64) -> Result<(), Refused> {
+        let (mut state, mut verdict) = ([0; STATE], [0; VERDICT]);
+        put_tracker(&mut state, self);
+        // the entry reads the one and writes the other, each over its whole length
+        let done = unsafe { dimecandle_unplug(state.as_ptr(), STATE, id, verdict.as_mut_ptr(), VERDICT) };
+        assert_eq!(done, 0, "{OTHER_LAYOUT}");
+        refused(verdict)
+    }
+
     /// The configuration as it is stored: ascending lists.
     pub fn to_conf_state(&self) -> Result<ConfState, Refused> {
         Ok(Request::of(TO_CONF_STATE, self).answer()?.conf_state())
@@ -235,11 +246,14 @@ impl Tracker {
     }
 }
 
-// ** The entry, and its words: docs/EMBEDDING.md
+// ** The entries, and their words: docs/EMBEDDING.md
 
 unsafe extern "C" {
     fn dimecandle_call(request: *const u8, request_len: usize, reply: *mut u8, reply_len: usize) -> u64;
+    fn dimecandle_unplug(state: *const u64, state_len: usize, id: u64, verdict: *mut u64, verdict_len: usize) -> u64;
 }
+
+const OTHER_LAYOUT: &str = "libcalls.a has another layout than this file";
 
 // A word is handed over as it lies in memory. That libcalls.a is for x86-64 the linker says.
 #[cfg(not(target_endian = "little"))]
@@ -267,6 +281,7 @@ const LIST: usize = 2 * (LIST_PLACES + 1);
 const LONGEST_LIST: usize = 256;
 const LOG_PLACES: usize = 256;
 const LOG: usize = 2 * LOG_PLACES + 1;
+const VERDICT: usize = 2;
 
 const REQUEST_CALL: usize = 0;
 const REQUEST_STATE: usize = 1;
@@ -287,7 +302,7 @@ const REPLY_CONF_STATE: usize = REPLY_LOG + LOG;
 const REPLY_IDLE: usize = REPLY_CONF_STATE + CONF;
 const REPLY: usize = REPLY_IDLE + 1;
 
-const _: () = assert!(REQUEST == 2_527 && REPLY == 1_745);
+const _: () = assert!(REQUEST == 2_527 && REPLY == 1_745 && STATE == 967);
 
 struct Request {
     words: Vec<u64>,
@@ -329,11 +344,8 @@ impl Request {
         let mut words = vec![0u64; REPLY];
         // the entry reads the one and writes the other, each over its whole length
         let done = unsafe { dimecandle_call(self.words.as_ptr().cast(), REQUEST * 8, words.as_mut_ptr().cast(), REPLY * 8) };
-        assert_eq!(done, 0, "libcalls.a has another layout than this file");
-        let refused = match words[REPLY_NUMBER] {
-            0 => Ok(()),
-            number => Err(Refused { number, id: words[REPLY_ID] }),
-        };
+        assert_eq!(done, 0, "{OTHER_LAYOUT}");
+        let refused = refused([words[REPLY_NUMBER], words[REPLY_ID]]);
         (Reply { words }, refused)
     }
 
@@ -365,6 +377,14 @@ impl Reply {
             learners_next: ids(&lists[3 * SET..]).to_vec(),
             auto_leave: lists[4 * SET] == 1,
         }
+    }
+}
+
+/// What a number and an id say.
+fn refused([number, id]: [u64; VERDICT]) -> Result<(), Refused> {
+    match number {
+        0 => Ok(()),
+        number => Err(Refused { number, id }),
     }
 }
 

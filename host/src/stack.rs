@@ -1,5 +1,6 @@
-//! The peak stack of each entry: it is run on a thread whose stack was filled with a pattern, and what it wrote over is looked for.
-//! Of an emulated library the program around it does the same (emulated.c). Each entry has to keep within its bound.
+//! The peak stack of each call and of a script: the entry is run on a thread whose stack was filled with a pattern, and what it wrote over
+//! is looked for. Of an emulated library the program around it does the same (emulated.c). Each has to keep within its bound.
+//! `dimecandle_unplug` takes less than can be told apart here: unplug.c measures it.
 
 use crate::calls::CALLS;
 #[cfg(emulated)]

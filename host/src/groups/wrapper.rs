@@ -28,8 +28,20 @@ pub fn wrapper(comparison: &mut Comparison, random: &mut Random, size: Size) -> 
         let call = numbered(random.pick(&WRAPPED)).expect("a call of the table");
         generate::arguments(random, call, &ids, &mut request);
         through(comparison, &request)?;
+        if random.one_in(4) {
+            let id = generate::id_asked(random, &request.state);
+            can_unplug(comparison, &request.state, id)?;
+        }
     }
     Ok(())
+}
+
+/// What the wrapper says of one box beside the right verdict.
+fn can_unplug(comparison: &mut Comparison, state: &words::State, id: u64) -> Compared {
+    comparison.inputs += 1;
+    let verdict = tracker(state).can_unplug(id).map_or_else(|refused| [refused.number, refused.id], |()| [0, 0]);
+    let input = || Input::Other(format!("through dimecandle.rs: {}", show::unplug(state, id)));
+    comparison.judge(state, id, verdict).map_err(|difference| Box::new(Failure { input: input(), difference }))
 }
 
 fn through(comparison: &mut Comparison, request: &Request) -> Compared {
@@ -221,7 +233,9 @@ fn beyond_the_limits(comparison: &mut Comparison) -> Compared {
     expect(comparison, "a list of 300", 2, tracker.enter_joint(true, &too_long).map(|_| ()))?;
     expect(comparison, "65 learners and a list of 300", 1, overfull.simple(&too_long).map(|_| ()))?;
     expect(comparison, "65 learners", 1, overfull.to_conf_state().map(|_| ()))?;
+    expect(comparison, "65 learners, one to be unplugged", 1, overfull.can_unplug(2))?;
     expect(comparison, "70 tracked", 1, crowded.check())?;
+    expect(comparison, "70 tracked, one to be unplugged", 1, crowded.can_unplug(1))?;
     expect(comparison, "70 tracked, in order", 0, if crowded.in_order() { Err(Refused { number: 1, id: 0 }) } else { Ok(()) })?;
     expect(comparison, "a log of 257", 1, tested.apply_conf(Configuration::default(), log, 1))?;
     expect(comparison, "a configuration with 65 learners", 1, tested.apply_conf(overfull.conf.clone(), vec![], 1))?;
