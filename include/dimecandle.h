@@ -1,4 +1,4 @@
-/* Raft membership by the proved libraries: libcalls.a (dimecandle_call) and liblisting.a (dimecandle_replay).
+/* Raft membership by the proved libraries: libcalls.a (dimecandle_call, dimecandle_unplug) and liblisting.a (dimecandle_replay).
  * Words, blocks and places are those of docs/EMBEDDING.md. For C11 and later on x86-64; usable from C++. */
 #ifndef DIMECANDLE_H
 #define DIMECANDLE_H
@@ -14,7 +14,9 @@ extern "C" {
 enum {
     DIMECANDLE_CAPACITY = 64,     /* ids of a set, tracked ids */
     DIMECANDLE_LIST_PLACES = 260, /* places of a change list; one over 256 is answered with 2 */
-    DIMECANDLE_LOG_PLACES = 256
+    DIMECANDLE_LOG_PLACES = 256,
+    DIMECANDLE_STATE_WORDS = 967, /* of dimecandle_unplug */
+    DIMECANDLE_VERDICT_WORDS = 2
 };
 
 /* request.call */
@@ -121,6 +123,7 @@ typedef struct dimecandle_reply {
     uint64_t idle; /* of an accepted simple or enter_joint: entries of the list that did nothing; else 0 */
 } dimecandle_reply;
 
+static_assert(sizeof(dimecandle_state) == 8 * DIMECANDLE_STATE_WORDS, "a state is 967 words");
 static_assert(sizeof(dimecandle_request) == 20216, "a request is 2,527 words");
 static_assert(sizeof(dimecandle_reply) == 13960, "a reply is 1,745 words");
 static_assert(offsetof(dimecandle_request, conf_state) == 8 * 2266, "CONFSTATE is the request's last block");
@@ -130,6 +133,12 @@ static_assert(offsetof(dimecandle_reply, idle) == 8 * 1744, "idle is the reply's
 /* One call. 0: the reply is written. Else the reply is as it was: 1 the request's length, 2 the reply too short, 3 unknown call,
  * 4 a word that its field cannot hold. */
 uint64_t dimecandle_call(const uint8_t *request, size_t request_len, uint8_t *reply, size_t reply_len);
+
+/* Whether one box can be unplugged: number and id of `simple` with the single removal of `id`, for every state, and no new state is made
+ * to find out. `state` is a dimecandle_state; both lengths are in words of 8 bytes. 0: verdict[0] is the number, 0 where the box can be
+ * unplugged, verdict[1] the id, and the words after these two are kept. Else the verdict is as it was: 1 the state's length, 2 the verdict
+ * too short, 4 a word that its field cannot hold. */
+uint64_t dimecandle_unplug(const uint64_t *state, size_t state_len, uint64_t id, uint64_t *verdict, size_t verdict_len);
 
 /* A script's listing: its length, with the listing at the front of `out`. Else `out` is as it was: 2^32 + 19 for a script over 65,536 bytes,
  * 2^32 + 20 for a listing longer than `out`. */

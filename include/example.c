@@ -1,6 +1,6 @@
 /* Document 01's example 8 from C: a demoted voter is staged, and is a learner once the joint configuration is left. Its list has one
- * entry more, for a box that already stands as asked: that one counts as idle. Then a damaged configuration is restored, whole and step by
- * step.
+ * entry more, for a box that already stands as asked: that one counts as idle. On the way it is asked whether box 1 can be unplugged. Then
+ * a damaged configuration is restored, whole and step by step.
  * Build and run it: scripts/embed */
 #include "dimecandle.h"
 
@@ -14,10 +14,31 @@ static dimecandle_reply reply;
 /* Makes the call that is filled in; the program ends where the request itself is refused, which is a mistake in this file. */
 static void call(uint64_t which) {
     request.call = which;
-    uint64_t refused = dimecandle_call((const uint8_t *)&request, sizeof request, (uint8_t *)&reply, sizeof reply);
-    if (refused != 0) {
-        printf("dimecandle_call: %llu\n", (unsigned long long)refused);
+    uint64_t done = dimecandle_call((const uint8_t *)&request, sizeof request, (uint8_t *)&reply, sizeof reply);
+    if (done != 0) {
+        printf("dimecandle_call: %llu\n", (unsigned long long)done);
         exit(1);
+    }
+}
+
+static void refused(uint64_t number, uint64_t id) {
+    printf(" refused %llu id %llu\n", (unsigned long long)number, (unsigned long long)id);
+}
+
+/* Asks whether a box can be unplugged. The state is lent as it stands; no request is filled in. */
+static void unplug(uint64_t id) {
+    uint64_t verdict[DIMECANDLE_VERDICT_WORDS];
+    const uint64_t *state = (const uint64_t *)&request.state;
+    uint64_t done = dimecandle_unplug(state, DIMECANDLE_STATE_WORDS, id, verdict, DIMECANDLE_VERDICT_WORDS);
+    if (done != 0) {
+        printf("dimecandle_unplug: %llu\n", (unsigned long long)done);
+        exit(1);
+    }
+    printf("unplug %llu:", (unsigned long long)id);
+    if (verdict[0] != 0) {
+        refused(verdict[0], verdict[1]);
+    } else {
+        printf(" yes\n");
     }
 }
 
@@ -41,7 +62,7 @@ static void show_state(const dimecandle_state *state) {
 static void answered(const char *what) {
     printf("%s:", what);
     if (reply.number != 0) {
-        printf(" refused %llu id %llu\n", (unsigned long long)reply.number, (unsigned long long)reply.id);
+        refused(reply.number, reply.id);
         return;
     }
     uint64_t idle = reply.idle;
@@ -77,6 +98,7 @@ int main(void) {
         change(id, DIMECANDLE_ADD_NODE);
         call(DIMECANDLE_SIMPLE);
         answered("simple");
+        unplug(1);
     }
     memset(&request.list, 0, sizeof request.list);
     change(3, DIMECANDLE_ADD_LEARNER_NODE);
@@ -84,10 +106,12 @@ int main(void) {
     change(2, DIMECANDLE_ADD_NODE);
     call(DIMECANDLE_ENTER_JOINT);
     answered("enter_joint");
+    unplug(1);
     call(DIMECANDLE_SIMPLE);
     answered("simple");
     call(DIMECANDLE_LEAVE_JOINT);
     answered("leave_joint");
+    unplug(1);
 
     /* voters (5), learners (1 2 4 5): every voter is to be a learner, and the last step is refused with 17 */
     append(&request.conf_state.voters, 5);
