@@ -10,6 +10,7 @@ use crate::script::{LONGEST_SCRIPT, NO_ROOM, TOO_LONG};
 use crate::show;
 use crate::subject::Subject;
 use crate::words::{Block, Reply, Request, State, Verdict, REPLY_BYTES, VERDICT_WORDS};
+use std::hint::black_box;
 
 /// What the subject differs from.
 #[derive(Clone, Copy, PartialEq, Eq, Debug)]
@@ -213,7 +214,8 @@ impl<'a> Comparison<'a> {
         const AFTER: usize = 3;
         let mut words = [STALE; VERDICT_WORDS + AFTER];
         let lent = VERDICT_WORDS + self.inputs as usize % 2 * AFTER;
-        let given = *state;
+        // black_box: else the compiler takes it for granted that a lent state is not written
+        let given = black_box(*state);
         let done = self.subject.unplug(given.words(), id, &mut words[..lent]);
         let (verdict, after) = words.split_first_chunk().expect("a verdict has fewer words");
         if done != 0 {
