@@ -46,14 +46,16 @@ static const struct question QUESTIONS[] = {
     {.what = "an unknown id, 64 voters", .incoming = {7, 3, 64}, .tracked = {7, 3, 64}, .id = -1},
     {.what = "joint", .incoming = {1, 1, 2}, .outgoing = {1, 1, 3}, .staged = {3, 1, 1}, .tracked = {1, 1, 3}, .id = 3, .number = 6},
     {.what = "64 voters, joint", .incoming = {1, 1, 64}, .outgoing = {1, 1, 64}, .tracked = {1, 1, 64}, .id = 1, .number = 6},
-    {.what = "an id in a place that is not used", .incoming = {1, 1, 3}, .tracked = {1, 1, 3}, .place = INCOMING + 63, .value = 4, .id = 1, .number = 1},
+    {.what = "an id in an unused place", .incoming = {1, 1, 3}, .tracked = {1, 1, 3}, .place = INCOMING + 63, .value = 4, .id = 1, .number = 1},
     {.what = "64 voters, the last not tracked", .incoming = {1, 1, 64}, .tracked = {1, 1, 63}, .id = 1, .number = 7, .named = 64},
-    {.what = "64 voters, the last a learner", .incoming = {1, 1, 64}, .learners = {64, 1, 1}, .tracked = {1, 1, 64}, .id = 1, .number = 10, .named = 64},
+    {.what = "the last of 64 voters a learner",
+     .incoming = {1, 1, 64}, .learners = {64, 1, 1}, .tracked = {1, 1, 64}, .id = 1, .number = 10, .named = 64},
     {.what = "the flag while not joint", .incoming = {1, 1, 3}, .tracked = {1, 1, 3}, .place = AUTO_LEAVE, .value = 1, .id = 1, .number = 14},
     {.what = "id 0, which is skipped: the only voter", .incoming = {0, 1, 1}, .tracked = {0, 1, 1}, .id = 0},
     {.what = "id 0, no voter", .id = 0, .number = 17},
     {.what = "a flag of 2", .place = AUTO_LEAVE, .value = 2, .id = 1, .returned = 4, .number = STALE, .named = STALE},
-    {.what = "a flag of 2 in the last record", .place = RECORDS + 63 * RECORD + RECENT_ACTIVE, .value = 2, .id = 1, .returned = 4, .number = STALE, .named = STALE},
+    {.what = "a flag of 2 in the last record",
+     .place = RECORDS + 63 * RECORD + RECENT_ACTIVE, .value = 2, .id = 1, .returned = 4, .number = STALE, .named = STALE},
 };
 
 static void put(word *state, word at, struct set set) {

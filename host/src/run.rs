@@ -23,7 +23,7 @@ const HELP: &str = "host: the proved code beside the Rust that it was carried ov
                   writes a fixed sample of the Rust's answers, the files stdin and stdout of the program
                   vectors (VECTORS.md); usual folder: crates/vectors
   host bench      times both on the same calls and scripts
-  host stack      measures the peak stack of each entry, each within its bound; ends in `N passed, M failed`
+  host stack      measures the peak stack of each call and of a script, within its bound; ends in `N passed, M failed`
   host --help     prints this
 
 Exit status: 0 all passed, 1 something differs, 2 bad usage, 77 it cannot run here (no Rust text, no static library; of bench

@@ -62,10 +62,9 @@ const NUMBERS: [u64; 3] = [0, 6, 17];
 /// an id other than 0, is none, I or L, in a joint state also O, IO or OS, and a joint state has either flag. 17 comes where every other
 /// box is none or L, whatever the one asked about.
 fn how_often(ids: &[u64], asked: u64) -> [u64; 3] {
-    let boxes = ids.iter().filter(|&&id| id != 0).count() as u32;
-    let of = |standings: u64| standings.pow(boxes);
-    let asked_boxes = u64::from(boxes);
-    let last = (asked - asked_boxes) * of(2) + asked_boxes * 3 * 2u64.pow(boxes - 1);
+    let boxes = ids.iter().filter(|&&id| id != 0).count() as u64;
+    let of = |standings: u64| standings.pow(boxes as u32);
+    let last = (asked - boxes) * of(2) + boxes * of(2) / 2 * 3;
     [asked * of(3) - last, asked * 2 * (of(6) - of(3)), last]
 }
 
