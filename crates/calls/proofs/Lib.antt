@@ -6,6 +6,8 @@ pub mod ReadNumbers
 pub mod ReadFilled
 pub mod ReadWithin
 pub mod WriteCalls
+pub mod WordBlocks
+pub mod Unplugged
 pub mod RoundWords
 pub mod RoundSmall
 pub mod RoundSets

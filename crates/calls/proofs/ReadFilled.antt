@@ -8,7 +8,7 @@ use lib.ListN.{length, take, set, length-set}
 use lib.Seq.{take-all, take-suc-set}
 use Rattle.progress.specs.declared.Progress.{Progress}
 use Rattle.tracker.specs.declared.MapChange.{MapChange}
-use Rattle.calls.specs.Layout.{word, words, recordAt, recordsAt, kindNamed, entriesAt, kindsAt}
+use Rattle.calls.specs.Layout.{word, words, wordsBy, recordAt, recordsAt, recordsBy, kindNamed, entriesAt, kindsAt}
 
 unfoldable pub spaced : {A : Type 0} → ℕ → (ℕ → A) → ℕ → ℕ → List A
 spaced zero f step k = []
@@ -26,7 +26,7 @@ spaced-more (suc n) f step k =
 -- ** The lists of a request are such values
 
 pub words-spaced : (n : ℕ) (s : List ℕ) (k : ℕ) → words n s k ≡ spaced n (word s) 1 k
-unfolding words spaced
+unfolding wordsBy spaced
 words-spaced zero s k = refl
 words-spaced (suc n) s k = ap (λ r. word s k ∷ r) (words-spaced n s (k + 1))
 
@@ -39,7 +39,7 @@ kinds-spaced zero s k = refl
 kinds-spaced (suc n) s k = ap (λ r. kindAt s k ∷ r) (kinds-spaced n s (k + 1))
 
 pub records-spaced : (n : ℕ) (s : List ℕ) (k : ℕ) → recordsAt n s k ≡ spaced n (recordAt s) 10 k
-unfolding recordsAt spaced
+unfolding recordsBy spaced
 records-spaced zero s k = refl
 records-spaced (suc n) s k = ap (λ r. recordAt s k ∷ r) (records-spaced n s (k + 10))
 

@@ -12,7 +12,7 @@ use Rattle.tracker.specs.declared.MapChangeType.the-variants.{Add, Remove}
 use Rattle.tracker.specs.declared.MapChange.{MapChange}
 use Rattle.tracker.specs.declared.ChangeLog.{ChangeLog}
 use Rattle.tracker.specs.declared.Tracker.{Tracker}
-use Rattle.calls.specs.Layout.{word, flag, setAt, confAt, stateNamed, recordAt, recordsAt, stateAt, kindNamed, entriesAt, logAt}
+use Rattle.calls.specs.Layout.{word, flag, setAt, confAt, stateNamed, recordAt, recordsAt, recordsBy, stateAt, kindNamed, entriesAt, logAt}
 use Rattle.calls.specs.Reply.{setWords, confWords, stateWord, recordWords, recordsWords, stateWords, kindWord, entriesWords, logWords}
 use Rattle.calls.proofs.Typed.{TypedState, TypedLog}
 use Rattle.calls.proofs.WriteLengths.{set-length, conf-length, record-length, records-length, entries-length}
@@ -56,7 +56,7 @@ module _ {s : List ℕ} where
       }
 
   records-read : (k : ℕ) (ps : List Progress) → Reads s k (recordsWords ps) → recordsAt (length ps) s k ≡ ps
-  unfolding recordsAt recordsWords
+  unfolding recordsBy recordsWords
   records-read k [] f = refl
   records-read k (p ∷ ps) f =
       let a : recordAt s k ≡ p = record-read p (reads-left (recordWords p) (recordsWords ps) f) in

@@ -6,7 +6,7 @@ use native.Mathlib.Nat.{div-lt-iff-lt-mul, pow-suc, add-zero}
 use native.Mathlib.Omega.{arith}
 use lib.ListN.{length, length-append, getD, List·getD-append}
 use lib.Seq.{getD-append-add, getD-at}
-use Rattle.calls.specs.Layout.{number, word, words}
+use Rattle.calls.specs.Layout.{number, word, words, wordsBy}
 use Rattle.calls.specs.Reply.{bytes, wordBytes, allBytes}
 use Rattle.calls.proofs.Typed.{U64, Each, none, more}
 use Rattle.calls.proofs.WriteLengths.{word-length}
@@ -80,6 +80,6 @@ module _ {s : List ℕ} {k w : ℕ} {ws : List ℕ} (f : Reads s k (w ∷ ws)) w
   }
 
 pub words-back : {s : List ℕ} {k : ℕ} {ws : List ℕ} → Reads s k ws → words (length ws) s k ≡ ws
-unfolding words
+unfolding wordsBy
 words-back {ws = []} f = refl
 words-back {ws = w ∷ ws} f = rw (reads-first f, words-back (reads-next f))

@@ -38,7 +38,7 @@ use Rattle.changer.proofs.Pending.{pending-set}
 use Rattle.restore.specs.Restore.{restoreOf, restoring, stepByStepOf, tooLong}
 use Rattle.restore.proofs.Applied.{Fits, enter-fits, leave-fits, simple-fits}
 use Rattle.restore.proofs.Restored.{steps-left, whole-left}
-use Rattle.calls.specs.Layout.{confAt, confStateAt, entriesAt, flag, listAt, logAt, number, recordAt, recordsAt, setAt, stateAt, word, words}
+use Rattle.calls.specs.Layout.{confAt, confStateAt, entriesAt, flag, listAt, logAt, number, recordAt, recordsAt, recordsBy, setAt, stateAt, word, words, wordsBy}
 use Rattle.calls.specs.Call.{callAnswer, callLeaves, fromAnswer, fromOutcome, fromVerdict, fromWritten, kindsIn, noLists, noLog, reply, replyTo}
 use Rattle.calls.proofs.Typed.{U64, Each, none, more, ArrayOf, TypedSet, TypedList, TypedConf, TypedRecord, TypedState, TypedEntry, TypedLog, TypedConfState, TypedReply}
 use Rattle.calls.proofs.TypedRules.{Answered, U64Outcome, Said, answered, applied-u64, checked-said, declined, either, enter-u64, faulted, leave-u64, passed, restore-u64, steps-restored-u64, simple-u64}
@@ -171,7 +171,7 @@ module _ {s : List ℕ} (p : Each Byte s) where
   word-typed k = number-small 8 p (8 * k)
 
   words-typed : (n k : ℕ) → ArrayOf n U64 (words n s k)
-  unfolding words
+  unfolding wordsBy
   words-typed zero k = record { places = refl; each = none }
   words-typed (suc n) k =
       let r = words-typed n (k + 1) in
@@ -199,7 +199,7 @@ module _ {s : List ℕ} (p : Each Byte s) where
       }
 
   records-typed : (n k : ℕ) → ArrayOf n TypedRecord (recordsAt n s k)
-  unfolding recordsAt
+  unfolding recordsBy
   records-typed zero k = record { places = refl; each = none }
   records-typed (suc n) k =
       let r = records-typed n (k + 10) in

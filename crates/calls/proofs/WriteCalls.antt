@@ -19,7 +19,7 @@ use Rattle.restore.specs.Restore.{restoreOf, stepByStepOf, wholeOf}
 use Rattle.restore.proofs.Restored.{made-whole}
 use Rattle.text.specs.Put.{Put, last}
 use Rattle.text.proofs.Laws.{put-whole}
-use Rattle.calls.specs.Layout.{word, words, flag, confAt, stateAt, logAt, confStateAt, kindsAt, changeListAt, holds}
+use Rattle.calls.specs.Layout.{word, words, wordsBy, flag, confAt, stateAt, logAt, confStateAt, kindsAt, changeListAt, holds}
 use Rattle.calls.specs.Reply.{allBytes}
 use Rattle.calls.specs.Call.{reply, noLog, noLists, fromVerdict, fromAnswer, fromOutcome, fromWritten, idsIn, kindsIn, askIn, restoredIn, replyTo, replyWords, callAnswer, callLeaves}
 use Rattle.calls.specs.declared.Reply.{Reply}
@@ -30,7 +30,7 @@ use Rattle.calls.proofs.WriteLengths.{reply-length}
 -- ** The LIST
 
 words-count : (n : ℕ) (s : List ℕ) (k : ℕ) → length (words n s k) ≡ n
-unfolding words
+unfolding wordsBy
 words-count zero s k = refl
 words-count (suc n) s k = ap suc (words-count n s (k + 1))
 

@@ -7,7 +7,7 @@ use Rattle.idset.specs.declared.IdSet.{IdSet}
 use Rattle.tracker.specs.declared.IdList.{IdList}
 use Rattle.tracker.specs.declared.MapChangeType.the-variants.{Remove}
 use Rattle.tracker.specs.declared.Tracker.{Tracker}
-use Rattle.calls.specs.Layout.{number, word, words, within}
+use Rattle.calls.specs.Layout.{number, word, words, wordsBy, within, withinBy}
 use Rattle.calls.specs.Reply.{bytes, wordBytes, allBytes, confWords, recordsWords, stateWords, entriesWords, logWords, confStateWords}
 use Rattle.calls.specs.Call.{callAnswer, callLeaves, reply, replyWords}
 
@@ -22,7 +22,7 @@ number-bytes = (refl, refl)
 
 -- the first word first
 pub word-places : (words 2 (allBytes (513 ∷ 7 ∷ [])) 0 ≡ 513 ∷ 7 ∷ []) × (word (allBytes (513 ∷ 7 ∷ [])) 1 ≡ 7)
-unfolding number words bytes wordBytes allBytes
+unfolding number wordsBy bytes wordBytes allBytes
 word-places = (refl, refl)
 
 -- a log's entries, and then its count
@@ -54,7 +54,7 @@ reply-places = refl
 
 -- a flag of 1 can be held and one of 2 not; a kind of 255 can be and one of 256 not, though its least significant byte is 0
 pub held : (within 1 1 1 (1 ∷ []) 0 ≡ true) × (within 1 1 1 (2 ∷ []) 0 ≡ false) × (within 2 255 1 (allBytes (0 ∷ 255 ∷ [])) 0 ≡ true) × (within 2 255 1 (allBytes (0 ∷ 256 ∷ [])) 0 ≡ false)
-unfolding number within bytes wordBytes allBytes
+unfolding number withinBy bytes wordBytes allBytes
 held = (refl, refl, refl, refl)
 
 -- a request of no bytes: 1, also where the reply is too short, and the reply is as it was

@@ -1,4 +1,5 @@
 pub mod Layout
 pub mod Reply
 pub mod Call
+pub mod Unplugs
 pub mod Examples

@@ -15,6 +15,7 @@ ghost use Rattle.calls.specs.Call.{fromVerdict, fromAnswer, fromOutcome,
 
 pub mod read; // a request
 pub mod write; // a reply
+pub mod unplug; // can this box be unplugged?
 
 // What a call answers.
 pub struct Reply {

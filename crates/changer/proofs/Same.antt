@@ -42,7 +42,7 @@ module _ (t : Tracker) where
   own-numbered = check-numbered (held (t .ids)) (confOf (t .conf))
 
   module _ (w : trackerWellFormed t ≡ true) where
-    own-check : ownCheck t ≡ checks
+    pub own-check : ownCheck t ≡ checks
     own-check =
         walk-checks (held (t .ids)) (s .conf) (held-rises (t .ids) (tracker-parts t w .ids)) (conf-formed (t .conf) (tracker-parts t w .conf))
         ∙ ap (λ (l : List ℕ). check (λ x. memb x l) (s .conf)) (sym (tracked-ids t w))

@@ -8,6 +8,7 @@ use Rattle.rules.specs.Answers as rules
 use Rattle.rules.specs.Answers.{fault, refuse, _▸_}
 use Rattle.rules.specs.Check.{joint}
 use Rattle.rules.specs.Calls.{readable}
+use Rattle.rules.specs.Unplug.{voterLeft}
 use Rattle.idset.specs.Set.{held}
 use Rattle.tracker.specs.Bridge.{confOf}
 use Rattle.tracker.specs.Form.{trackerWellFormed}
@@ -45,3 +46,9 @@ mayLeave t = formedThen t (refuse (not (joint (confOf (t .conf)))) 5 0 ▸ ownCh
 -- 1, 2, 3; 6; the check
 abbrev pub maySimple : Tracker → List ℕ → List ℕ → Verdict
 maySimple t ids kinds = formedThen t (readable ids kinds ▸ refuse (joint (confOf (t .conf))) 6 0 ▸ ownCheck t)
+
+-- ** Whether a box can be unplugged, without the changes
+
+-- 1; 6; the check; 17
+abbrev pub mayUnplug : Tracker → ℕ → Verdict
+mayUnplug t x = formedThen t (refuse (joint (confOf (t .conf))) 6 0 ▸ ownCheck t ▸ refuse (not (voterLeft x (held (t .conf .incoming)))) 17 0)

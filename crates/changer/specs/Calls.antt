@@ -1,8 +1,8 @@
--- What the three calls answer, for every state and every list: the rules through the bridge, and 1 where the state is malformed. Assumes
--- nothing.
+-- What the three calls answer, for every state and every list, and whether a box can be unplugged: the rules through the bridge, and 1 where the state
+-- is malformed. Assumes nothing.
 use Prim.Native.Nat.{ℕ}
 use mathlib.Core.Bool.{Bool, cond}
-use mathlib.Core.List.{List, []}
+use mathlib.Core.List.{List, [], _∷_}
 use Rattle.rules.specs.Answers as rules
 use Rattle.rules.specs.Answers.{accepted, refused}
 use Rattle.rules.specs.Calls.{simple, enterJoint, leaveJoint}
@@ -11,6 +11,7 @@ use Rattle.tracker.specs.Bridge.{configurationOf, changeLogOf, stateOf}
 use Rattle.tracker.specs.Form.{trackerWellFormed}
 use Rattle.tracker.specs.declared.Configuration.{Configuration}
 use Rattle.tracker.specs.declared.Tracker.{Tracker}
+use Rattle.tracker.specs.declared.Verdict.{Verdict}
 use Rattle.changer.specs.declared.Answer.{Answer}
 
 -- "A refusal gives the number and the id named here, else id 0, the state given and an empty log"; "a refused call gives 0". The number i is of
@@ -32,3 +33,8 @@ enterAnswer t auto ids kinds = ifFormed t (enterIdles (stateOf t) auto ids kinds
 -- there is no list
 unfoldable pub leaveAnswer : Tracker → Answer
 leaveAnswer t = ifFormed t 0 (leaveJoint (stateOf t))
+
+-- "the number and id returned equal those of `simple` with that single removal. Any other state gets the full call's answer" (document 02, d). 1 is
+-- RemoveNode.
+unfoldable pub unplugOf : Tracker → ℕ → Verdict
+unplugOf t x = record { number = simpleAnswer t (x ∷ []) (1 ∷ []) .number; id = simpleAnswer t (x ∷ []) (1 ∷ []) .id }

@@ -4,7 +4,7 @@ use mathlib.Core.Path.{_≡_, refl}
 use mathlib.Core.Bool.{Bool, true, false, not}
 use mathlib.Core.List.{List, [], _∷_}
 use native.Mathlib.Omega.{arith}
-use borrow.Author.Tests.{eq-eqb, le-leb, lt-leb, lt-ltb, le-ltb}
+use borrow.Author.Tests.{eq-eqb, le-leb, lt-leb, lt-ltb, le-ltb, ne-eqb}
 use lib.Dec.{eqb, eqb·suc-zero}
 use lib.ListN.{length, take, drop, length-take}
 use Rattle.rules.specs.Ids.{memb, ascending, isEmpty}
@@ -15,22 +15,28 @@ use Rattle.idset.specs.declared.Inserted.{Inserted}
 use Rattle.idset.specs.declared.Removed.{Removed}
 use Rattle.idset.proofs.Places.{place-memb}
 
--- ** is_malformed, is_empty
+-- ** malformed_in, is_empty
+
+module _ (l : List ℕ) (n : ℕ) where
+  pub form-other : (length l ≡ 64 → ⊥) → true ≡ not (wellFormed (record { ids = l; len = n }))
+  unfolding wellFormed
+  form-other h = rw (ne-eqb _ _ h)
+
+  module _ (long : length l ≡ 64) where
+    pub form-over : 64 < n → true ≡ not (wellFormed (record { ids = l; len = n }))
+    unfolding wellFormed
+    form-over h = rw (eq-eqb _ _ long, lt-leb _ _ h)
+
+    module _ (h : n ≤ 64) (b : Bool) (e : b ≡ ascending (take n l)) where
+      pub form-unsorted : b ≡ false → true ≡ not (wellFormed (record { ids = l; len = n }))
+      unfolding wellFormed
+      form-unsorted f = rw (eq-eqb _ _ long, le-leb _ _ h, ← e, f)
+
+      pub form-zeros : b ≡ true → (r : Bool) → r ≡ zeros (drop n l) → not r ≡ not (wellFormed (record { ids = l; len = n }))
+      unfolding wellFormed
+      form-zeros f r z = rw (eq-eqb _ _ long, le-leb _ _ h, ← e, f, z)
 
 module _ (s : IdSet) (long : length (s .ids) ≡ 64) where
-  pub form-over : 64 < s .len → true ≡ not (wellFormed s)
-  unfolding wellFormed
-  form-over h = rw (eq-eqb _ _ long, lt-leb _ _ h)
-
-  module _ (h : s .len ≤ 64) (b : Bool) (e : b ≡ ascending (held s)) where
-    pub form-unsorted : b ≡ false → true ≡ not (wellFormed s)
-    unfolding wellFormed
-    form-unsorted f = rw (eq-eqb _ _ long, le-leb _ _ h, ← e, f)
-
-    pub form-zeros : b ≡ true → (r : Bool) → r ≡ zeros (drop (s .len) (s .ids)) → not r ≡ not (wellFormed s)
-    unfolding wellFormed
-    form-zeros f r z = rw (eq-eqb _ _ long, le-leb _ _ h, ← e, f, z)
-
   pub empty-none : eqb (s .len) 0 ≡ isEmpty (held s)
   empty-none = go (s .len) (s .ids) long
     where

@@ -17,19 +17,19 @@ module _ (tracked : List ℕ) (c : Conf) (a : ascending tracked ≡ true) (f : c
   s : Sets c
   s = sets-of c f
 
-  voters-walk : votersWalk tracked c ≡ each (λ x. refuse (not (memb x tracked)) 7 x) (insertAll (c .incoming) (c .outgoing))
+  voters-walk : votersWalk tracked (c .incoming) (c .outgoing) ≡ each (λ x. refuse (not (memb x tracked)) 7 x) (insertAll (c .incoming) (c .outgoing))
   voters-walk =
       rw (walk-each walk-out 7 tracked a (c .incoming) (s .incoming .rises), walk-each walk-out 7 tracked a (c .outgoing) (s .outgoing .rises))
       (sym (each-all (local-refuse (λ x. not (memb x tracked)) 7) (c .incoming) (c .outgoing) (s .incoming .rises) (s .outgoing .rises)))
 
-  learners-walk : learnersWalk tracked c ≡ each (λ x. refuse (not (memb x tracked)) 8 x ▸ refuse (memb x (c .outgoing)) 9 x ▸ refuse (memb x (c .incoming)) 10 x) (c .learners)
+  learners-walk : learnersWalk tracked (c .incoming) (c .outgoing) (c .learners) ≡ each (λ x. refuse (not (memb x tracked)) 8 x ▸ refuse (memb x (c .outgoing)) 9 x ▸ refuse (memb x (c .incoming)) 10 x) (c .learners)
   learners-walk =
       let r : ascending (c .learners) ≡ true = s .learners .rises in
       rw (walk-each walk-out 8 tracked a (c .learners) r, walk-each walk-in 9 (c .outgoing) (s .outgoing .rises) (c .learners) r, walk-each walk-in 10 (c .incoming) (s .incoming .rises) (c .learners) r)
       (ap (sooner (each (λ x. refuse (not (memb x tracked)) 8 x) (c .learners))) (sym (each-both (local-refuse (λ x. memb x (c .outgoing)) 9) (local-refuse (λ x. memb x (c .incoming)) 10) (c .learners) r))
       ∙ sym (each-both (local-refuse (λ x. not (memb x tracked)) 8) (local-then (local-refuse (λ x. memb x (c .outgoing)) 9) (local-refuse (λ x. memb x (c .incoming)) 10)) (c .learners) r))
 
-  staged-walk : stagedWalk tracked c ≡ each (λ x. refuse (not (memb x tracked)) 11 x ▸ refuse (not (memb x (c .outgoing))) 12 x) (c .staged)
+  staged-walk : stagedWalk tracked (c .outgoing) (c .staged) ≡ each (λ x. refuse (not (memb x tracked)) 11 x ▸ refuse (not (memb x (c .outgoing))) 12 x) (c .staged)
   staged-walk =
       let r : ascending (c .staged) ≡ true = s .staged .rises in
       rw (walk-each walk-out 11 tracked a (c .staged) r, walk-each walk-out 12 (c .outgoing) (s .outgoing .rises) (c .staged) r)

@@ -18,37 +18,37 @@ use Rattle.invariants.proofs.Faults.{Numbered, numbered-at, numbered-re
 -- ** What each says
 
 -- 7, 11 and 12
-module _ (tracked : List ℕ) (c : Conf) {a b : Found} {v w r : Verdict} where
-  pub voters-say : a ≡ foundOf (firstOut (c .incoming) tracked) → v ≡ faultIn a 7 → b ≡ foundOf (firstOut (c .outgoing) tracked) → w ≡ faultIn b 7
-      → r ≡ soonerOf v w → r ≡ verdictOf (votersWalk tracked c)
-  voters-say = two-say (firstOut (c .incoming) tracked) (firstOut (c .outgoing) tracked) 7 7 refl refl
+module _ (tracked : List ℕ) {a b : Found} {v w r : Verdict} where
+  pub voters-say : (is os : List ℕ) → a ≡ foundOf (firstOut is tracked) → v ≡ faultIn a 7 → b ≡ foundOf (firstOut os tracked) → w ≡ faultIn b 7
+      → r ≡ soonerOf v w → r ≡ verdictOf (votersWalk tracked is os)
+  voters-say is os = two-say (firstOut is tracked) (firstOut os tracked) 7 7 refl refl
 
-  pub staged-say : a ≡ foundOf (firstOut (c .staged) tracked) → v ≡ faultIn a 11 → b ≡ foundOf (firstOut (c .staged) (c .outgoing)) → w ≡ faultIn b 12
-      → r ≡ soonerOf v w → r ≡ verdictOf (stagedWalk tracked c)
-  staged-say = two-say (firstOut (c .staged) tracked) (firstOut (c .staged) (c .outgoing)) 11 12 refl refl
+  pub staged-say : (os gs : List ℕ) → a ≡ foundOf (firstOut gs tracked) → v ≡ faultIn a 11 → b ≡ foundOf (firstOut gs os) → w ≡ faultIn b 12
+      → r ≡ soonerOf v w → r ≡ verdictOf (stagedWalk tracked os gs)
+  staged-say os gs = two-say (firstOut gs tracked) (firstOut gs os) 11 12 refl refl
 
 -- 8, 9 and 10
-pub learners-say : (tracked : List ℕ) (c : Conf) {d a b : Found} {u v w q r : Verdict} → d ≡ foundOf (firstOut (c .learners) tracked) → u ≡ faultIn d 8
-    → a ≡ foundOf (firstIn (c .learners) (c .outgoing)) → v ≡ faultIn a 9 → b ≡ foundOf (firstIn (c .learners) (c .incoming)) → w ≡ faultIn b 10
-    → q ≡ soonerOf v w → r ≡ soonerOf u q → r ≡ verdictOf (learnersWalk tracked c)
-learners-say tracked c d u a v b w q r =
-    let nine : First = firstIn (c .learners) (c .outgoing) in
-    let ten : First = firstIn (c .learners) (c .incoming) in
-    sooner-says (faultAt (firstOut (c .learners) tracked) 8) (sooner (faultAt nine 9) (faultAt ten 10))
-    (numbered-at (firstOut (c .learners) tracked) 8 refl) (two-numbered nine ten 9 10 refl refl)
-    (fault-says (firstOut (c .learners) tracked) 8 d u) (two-say nine ten 9 10 refl refl a v b w q) r
+pub learners-say : (tracked is os ls : List ℕ) {d a b : Found} {u v w q r : Verdict} → d ≡ foundOf (firstOut ls tracked) → u ≡ faultIn d 8
+    → a ≡ foundOf (firstIn ls os) → v ≡ faultIn a 9 → b ≡ foundOf (firstIn ls is) → w ≡ faultIn b 10
+    → q ≡ soonerOf v w → r ≡ soonerOf u q → r ≡ verdictOf (learnersWalk tracked is os ls)
+learners-say tracked is os ls d u a v b w q r =
+    let nine : First = firstIn ls os in
+    let ten : First = firstIn ls is in
+    sooner-says (faultAt (firstOut ls tracked) 8) (sooner (faultAt nine 9) (faultAt ten 10))
+    (numbered-at (firstOut ls tracked) 8 refl) (two-numbered nine ten 9 10 refl refl)
+    (fault-says (firstOut ls tracked) 8 d u) (two-say nine ten 9 10 refl refl a v b w q) r
 
 -- 13 and 14: none where it is joint; else 13 where there are staged ids; else 14 where the flag is set
-module _ (c : Conf) {j : Bool} (q : j ≡ joint c) {r : Verdict} where
-  pub single-joint : j ≡ true → r ≡ faultIn (record { some = false; id = 0 }) 0 → r ≡ verdictOf (singleWalk c)
-  single-joint h e = e ∙ rw (← q, h)
+module _ (j g auto : Bool) {r : Verdict} where
+  pub single-joint : j ≡ true → r ≡ faultIn (record { some = false; id = 0 }) 0 → r ≡ verdictOf (singleWalk j g auto)
+  single-joint h e = e ∙ rw h
 
-  module _ (h : j ≡ false) {e : Bool} (p : e ≡ isEmpty (c .staged)) where
-    pub single-staged : not e ≡ true → r ≡ faultIn (record { some = true; id = 0 }) 13 → r ≡ verdictOf (singleWalk c)
-    single-staged g k = k ∙ rw (← q, h, ← p, not-true e g)
+  module _ (h : j ≡ false) where
+    pub single-staged : g ≡ true → r ≡ faultIn (record { some = true; id = 0 }) 13 → r ≡ verdictOf (singleWalk j g auto)
+    single-staged e k = k ∙ rw (h, e)
 
-    pub single-flag : not e ≡ false → r ≡ faultIn (record { some = c .autoLeave; id = 0 }) 14 → r ≡ verdictOf (singleWalk c)
-    single-flag g k = k ∙ rw (← q, h, ← p, not-false e g) (go (c .autoLeave))
+    pub single-flag : g ≡ false → r ≡ faultIn (record { some = auto; id = 0 }) 14 → r ≡ verdictOf (singleWalk j g auto)
+    single-flag e k = k ∙ rw (h, e) (go auto)
       where
         go : (b : Bool) → faultIn (record { some = b; id = 0 }) 14 ≡ verdictOf (refuse b 14 0)
         go true = refl
@@ -57,48 +57,48 @@ module _ (c : Conf) {j : Bool} (q : j ≡ joint c) {r : Verdict} where
 -- ** Their numbers
 
 module _ (tracked : List ℕ) (c : Conf) where
-  pub voters-numbered : Numbered (votersWalk tracked c)
+  pub voters-numbered : Numbered (votersWalk tracked (c .incoming) (c .outgoing))
   voters-numbered = two-numbered (firstOut (c .incoming) tracked) (firstOut (c .outgoing) tracked) 7 7 refl refl
 
-  pub learners-numbered : Numbered (learnersWalk tracked c)
+  pub learners-numbered : Numbered (learnersWalk tracked (c .incoming) (c .outgoing) (c .learners))
   learners-numbered = numbered-sooner (faultAt (firstOut (c .learners) tracked) 8) (sooner (faultAt (firstIn (c .learners) (c .outgoing)) 9) (faultAt (firstIn (c .learners) (c .incoming)) 10)) (numbered-at (firstOut (c .learners) tracked) 8 refl) (two-numbered (firstIn (c .learners) (c .outgoing)) (firstIn (c .learners) (c .incoming)) 9 10 refl refl)
 
-  pub staged-numbered : Numbered (stagedWalk tracked c)
+  pub staged-numbered : Numbered (stagedWalk tracked (c .outgoing) (c .staged))
   staged-numbered = two-numbered (firstOut (c .staged) tracked) (firstOut (c .staged) (c .outgoing)) 11 12 refl refl
 
-  pub single-numbered : Numbered (singleWalk c)
+  pub single-numbered : Numbered (singleWalk (joint c) (not (isEmpty (c .staged))) (c .autoLeave))
   single-numbered = numbered-then (refuse (not (joint c) && not (isEmpty (c .staged))) 13 0) (refuse (not (joint c) && c .autoLeave) 14 0) (numbered-refuse (not (joint c) && not (isEmpty (c .staged))) 13 0 refl) (numbered-refuse (not (joint c) && c .autoLeave) 14 0 refl)
 
   pub check-numbered : Numbered (checkWalk tracked c)
   unfolding checkWalk
   check-numbered =
-      numbered-then (votersWalk tracked c) (learnersWalk tracked c ▸ stagedWalk tracked c ▸ singleWalk c) voters-numbered
-      (numbered-then (learnersWalk tracked c) (stagedWalk tracked c ▸ singleWalk c) learners-numbered
-      (numbered-then (stagedWalk tracked c) (singleWalk c) staged-numbered single-numbered))
+      numbered-then (votersWalk tracked (c .incoming) (c .outgoing)) (learnersWalk tracked (c .incoming) (c .outgoing) (c .learners) ▸ stagedWalk tracked (c .outgoing) (c .staged) ▸ singleWalk (joint c) (not (isEmpty (c .staged))) (c .autoLeave)) voters-numbered
+      (numbered-then (learnersWalk tracked (c .incoming) (c .outgoing) (c .learners)) (stagedWalk tracked (c .outgoing) (c .staged) ▸ singleWalk (joint c) (not (isEmpty (c .staged))) (c .autoLeave)) learners-numbered
+      (numbered-then (stagedWalk tracked (c .outgoing) (c .staged)) (singleWalk (joint c) (not (isEmpty (c .staged))) (c .autoLeave)) staged-numbered single-numbered))
 
 -- ** One part after the other
 
-module _ (tracked : List ℕ) (c : Conf) {u : Verdict} (p : u ≡ verdictOf (votersWalk tracked c)) where
+module _ (tracked : List ℕ) (c : Conf) {u : Verdict} (p : u ≡ verdictOf (votersWalk tracked (c .incoming) (c .outgoing))) where
   pub at-voters : (u .number ≡ 0 → ⊥) → u ≡ verdictOf (checkWalk tracked c)
   unfolding checkWalk
-  at-voters = then-stops (votersWalk tracked c) (learnersWalk tracked c ▸ stagedWalk tracked c ▸ singleWalk c) p
+  at-voters = then-stops (votersWalk tracked (c .incoming) (c .outgoing)) (learnersWalk tracked (c .incoming) (c .outgoing) (c .learners) ▸ stagedWalk tracked (c .outgoing) (c .staged) ▸ singleWalk (joint c) (not (isEmpty (c .staged))) (c .autoLeave)) p
 
   module _ (h : u .number ≡ 0) where
-    past-voters : {x : Verdict} → x ≡ verdictOf (learnersWalk tracked c ▸ stagedWalk tracked c ▸ singleWalk c) → x ≡ verdictOf (checkWalk tracked c)
+    past-voters : {x : Verdict} → x ≡ verdictOf (learnersWalk tracked (c .incoming) (c .outgoing) (c .learners) ▸ stagedWalk tracked (c .outgoing) (c .staged) ▸ singleWalk (joint c) (not (isEmpty (c .staged))) (c .autoLeave)) → x ≡ verdictOf (checkWalk tracked c)
     unfolding checkWalk
-    past-voters = then-goes (votersWalk tracked c) (learnersWalk tracked c ▸ stagedWalk tracked c ▸ singleWalk c) p (voters-numbered tracked c) h
+    past-voters = then-goes (votersWalk tracked (c .incoming) (c .outgoing)) (learnersWalk tracked (c .incoming) (c .outgoing) (c .learners) ▸ stagedWalk tracked (c .outgoing) (c .staged) ▸ singleWalk (joint c) (not (isEmpty (c .staged))) (c .autoLeave)) p (voters-numbered tracked c) h
 
-    module _ {v : Verdict} (q : v ≡ verdictOf (learnersWalk tracked c)) where
+    module _ {v : Verdict} (q : v ≡ verdictOf (learnersWalk tracked (c .incoming) (c .outgoing) (c .learners))) where
       pub at-learners : (v .number ≡ 0 → ⊥) → v ≡ verdictOf (checkWalk tracked c)
-      at-learners k = past-voters (then-stops (learnersWalk tracked c) (stagedWalk tracked c ▸ singleWalk c) q k)
+      at-learners k = past-voters (then-stops (learnersWalk tracked (c .incoming) (c .outgoing) (c .learners)) (stagedWalk tracked (c .outgoing) (c .staged) ▸ singleWalk (joint c) (not (isEmpty (c .staged))) (c .autoLeave)) q k)
 
       module _ (k : v .number ≡ 0) where
-        past-learners : {x : Verdict} → x ≡ verdictOf (stagedWalk tracked c ▸ singleWalk c) → x ≡ verdictOf (checkWalk tracked c)
-        past-learners e = past-voters (then-goes (learnersWalk tracked c) (stagedWalk tracked c ▸ singleWalk c) q (learners-numbered tracked c) k e)
+        past-learners : {x : Verdict} → x ≡ verdictOf (stagedWalk tracked (c .outgoing) (c .staged) ▸ singleWalk (joint c) (not (isEmpty (c .staged))) (c .autoLeave)) → x ≡ verdictOf (checkWalk tracked c)
+        past-learners e = past-voters (then-goes (learnersWalk tracked (c .incoming) (c .outgoing) (c .learners)) (stagedWalk tracked (c .outgoing) (c .staged) ▸ singleWalk (joint c) (not (isEmpty (c .staged))) (c .autoLeave)) q (learners-numbered tracked c) k e)
 
-        module _ {w : Verdict} (r : w ≡ verdictOf (stagedWalk tracked c)) where
+        module _ {w : Verdict} (r : w ≡ verdictOf (stagedWalk tracked (c .outgoing) (c .staged))) where
           pub at-staged : (w .number ≡ 0 → ⊥) → w ≡ verdictOf (checkWalk tracked c)
-          at-staged l = past-learners (then-stops (stagedWalk tracked c) (singleWalk c) r l)
+          at-staged l = past-learners (then-stops (stagedWalk tracked (c .outgoing) (c .staged)) (singleWalk (joint c) (not (isEmpty (c .staged))) (c .autoLeave)) r l)
 
-          pub at-single : w .number ≡ 0 → {x : Verdict} → x ≡ verdictOf (singleWalk c) → x ≡ verdictOf (checkWalk tracked c)
-          at-single l t = past-learners (then-goes (stagedWalk tracked c) (singleWalk c) r (staged-numbered tracked c) l t)
+          pub at-single : w .number ≡ 0 → {x : Verdict} → x ≡ verdictOf (singleWalk (joint c) (not (isEmpty (c .staged))) (c .autoLeave)) → x ≡ verdictOf (checkWalk tracked c)
+          at-single l t = past-learners (then-goes (stagedWalk tracked (c .outgoing) (c .staged)) (singleWalk (joint c) (not (isEmpty (c .staged))) (c .autoLeave)) r (staged-numbered tracked c) l t)

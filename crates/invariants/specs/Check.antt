@@ -17,26 +17,32 @@ use Rattle.tracker.specs.declared.Tracker.{Tracker}
 use Rattle.tracker.specs.declared.Verdict.{Verdict}
 use Rattle.invariants.specs.Walk.{firstOut, firstIn, foundOf, faultAt, sooner}
 
+-- The tracked ids first, then the sets that are asked.
+
 -- 7: the least untracked voter of both sets
-abbrev pub votersWalk : List ℕ → Conf → rules.Verdict
-votersWalk tracked c = sooner (faultAt (firstOut (c .incoming) tracked) 7) (faultAt (firstOut (c .outgoing) tracked) 7)
+abbrev pub votersWalk : List ℕ → List ℕ → List ℕ → rules.Verdict
+votersWalk tracked incoming outgoing = sooner (faultAt (firstOut incoming tracked) 7) (faultAt (firstOut outgoing tracked) 7)
 
 -- 8, 9, 10: the least learner with a fault, and its first one
-abbrev pub learnersWalk : List ℕ → Conf → rules.Verdict
-learnersWalk tracked c =
-    sooner (faultAt (firstOut (c .learners) tracked) 8)
-    (sooner (faultAt (firstIn (c .learners) (c .outgoing)) 9) (faultAt (firstIn (c .learners) (c .incoming)) 10))
+abbrev pub learnersWalk : List ℕ → List ℕ → List ℕ → List ℕ → rules.Verdict
+learnersWalk tracked incoming outgoing learners =
+    sooner (faultAt (firstOut learners tracked) 8)
+    (sooner (faultAt (firstIn learners outgoing) 9) (faultAt (firstIn learners incoming) 10))
 
 -- 11, 12
-abbrev pub stagedWalk : List ℕ → Conf → rules.Verdict
-stagedWalk tracked c = sooner (faultAt (firstOut (c .staged) tracked) 11) (faultAt (firstOut (c .staged) (c .outgoing)) 12)
+abbrev pub stagedWalk : List ℕ → List ℕ → List ℕ → rules.Verdict
+stagedWalk tracked outgoing staged = sooner (faultAt (firstOut staged tracked) 11) (faultAt (firstOut staged outgoing) 12)
 
--- 13, 14
-abbrev pub singleWalk : Conf → rules.Verdict
-singleWalk c = refuse (not (joint c) && not (isEmpty (c .staged))) 13 0 ▸ refuse (not (joint c) && c .autoLeave) 14 0
+-- 13, 14: joint or not, whether there is a staged id, the flag
+abbrev pub singleWalk : Bool → Bool → Bool → rules.Verdict
+singleWalk j g auto = refuse (not j && g) 13 0 ▸ refuse (not j && auto) 14 0
 
 unfoldable pub checkWalk : List ℕ → Conf → rules.Verdict
-checkWalk tracked c = votersWalk tracked c ▸ learnersWalk tracked c ▸ stagedWalk tracked c ▸ singleWalk c
+checkWalk tracked c =
+    votersWalk tracked (c .incoming) (c .outgoing)
+    ▸ learnersWalk tracked (c .incoming) (c .outgoing) (c .learners)
+    ▸ stagedWalk tracked (c .outgoing) (c .staged)
+    ▸ singleWalk (joint c) (not (isEmpty (c .staged))) (c .autoLeave)
 
 -- all ids of the four sets, as far as there is room
 abbrev pub membersIn : Configuration → IdSet

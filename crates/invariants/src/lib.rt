@@ -30,91 +30,109 @@ pub fn joint(conf: Configuration) -> bool
 pub fn check_invariants(conf: Configuration, ids: IdSet) -> Verdict
     ensures { λ r. ⌜ r ≡ verdictOf (checkWalk (held ids) (confOf conf)) ⌝ }
 {
-    let v = check_voters(conf, ids);
-    if v.number != numbers::ACCEPTED {
-        return v;
-    }
-    let v = check_learners(conf, ids);
-    if v.number != numbers::ACCEPTED {
-        return v;
-    }
-    let v = check_staged(conf, ids);
-    if v.number != numbers::ACCEPTED {
-        return v;
-    }
-    check_single(conf)
-}
-
-// 7: voters of incoming or outgoing, ascending.
-fn check_voters(conf: Configuration, ids: IdSet) -> Verdict
-    ensures { λ r. ⌜ r ≡ verdictOf (votersWalk (held ids) (confOf conf)) ⌝ }
-{
-    let n = ids.len;
     let a = conf.incoming;
     let b = conf.outgoing;
-    let v = fault(
-        first_out(&a.ids, a.len, &ids.ids, n),
-        numbers::VOTER_NOT_TRACKED,
+    let c = conf.learners;
+    let d = conf.learners_next;
+    let v = check_voters(&a.ids, a.len, &b.ids, b.len, &ids.ids, ids.len);
+    if v.number != numbers::ACCEPTED {
+        return v;
+    }
+    let v = check_learners(
+        &c.ids,
+        c.len,
+        &b.ids,
+        b.len,
+        &a.ids,
+        a.len,
+        &ids.ids,
+        ids.len,
     );
-    let w = fault(
-        first_out(&b.ids, b.len, &ids.ids, n),
-        numbers::VOTER_NOT_TRACKED,
-    );
+    if v.number != numbers::ACCEPTED {
+        return v;
+    }
+    let v = check_staged(&d.ids, d.len, &b.ids, b.len, &ids.ids, ids.len);
+    if v.number != numbers::ACCEPTED {
+        return v;
+    }
+    check_single(joint(conf), !d.is_empty(), conf.auto_leave)
+}
+
+// The four parts of the check take the sets that they ask as their places and counts, and read them where they stand.
+
+// 7: voters of incoming or outgoing, ascending.
+pub fn check_voters<'a>(
+    incoming: &'a [u64],
+    i: usize,
+    outgoing: &'a [u64],
+    o: usize,
+    ids: &'a [u64],
+    n: usize,
+) -> Verdict
+    ensures { λ r. ⌜ r ≡ verdictOf (votersWalk (take n (now (ids .entry))) (take i (now (incoming .entry))) (take o (now (outgoing .entry)))) ⌝ }
+{
+    let v = fault(first_out(incoming, i, ids, n), numbers::VOTER_NOT_TRACKED);
+    let w = fault(first_out(outgoing, o, ids, n), numbers::VOTER_NOT_TRACKED);
     sooner(v, w)
 }
 
 // 8, 9, 10 for each learner.
-fn check_learners(conf: Configuration, ids: IdSet) -> Verdict
-    ensures { λ r. ⌜ r ≡ verdictOf (learnersWalk (held ids) (confOf conf)) ⌝ }
+pub fn check_learners<'a>(
+    learners: &'a [u64],
+    l: usize,
+    outgoing: &'a [u64],
+    o: usize,
+    incoming: &'a [u64],
+    i: usize,
+    ids: &'a [u64],
+    n: usize,
+) -> Verdict
+    ensures { λ r. ⌜ r ≡ verdictOf (learnersWalk (take n (now (ids .entry))) (take i (now (incoming .entry))) (take o (now (outgoing .entry))) (take l (now (learners .entry)))) ⌝ }
 {
-    let a = conf.learners;
-    let b = conf.outgoing;
-    let c = conf.incoming;
-    let u = fault(
-        first_out(&a.ids, a.len, &ids.ids, ids.len),
-        numbers::LEARNER_NOT_TRACKED,
-    );
+    let u = fault(first_out(learners, l, ids, n), numbers::LEARNER_NOT_TRACKED);
     let v = fault(
-        first_in(&a.ids, a.len, &b.ids, b.len),
+        first_in(learners, l, outgoing, o),
         numbers::LEARNER_IS_OUTGOING,
     );
     let w = fault(
-        first_in(&a.ids, a.len, &c.ids, c.len),
+        first_in(learners, l, incoming, i),
         numbers::LEARNER_IS_INCOMING,
     );
     sooner(u, sooner(v, w))
 }
 
 // 11, 12 for each staged id.
-fn check_staged(conf: Configuration, ids: IdSet) -> Verdict
-    ensures { λ r. ⌜ r ≡ verdictOf (stagedWalk (held ids) (confOf conf)) ⌝ }
+pub fn check_staged<'a>(
+    staged: &'a [u64],
+    g: usize,
+    outgoing: &'a [u64],
+    o: usize,
+    ids: &'a [u64],
+    n: usize,
+) -> Verdict
+    ensures { λ r. ⌜ r ≡ verdictOf (stagedWalk (take n (now (ids .entry))) (take o (now (outgoing .entry))) (take g (now (staged .entry)))) ⌝ }
 {
-    let a = conf.learners_next;
-    let b = conf.outgoing;
-    let v = fault(
-        first_out(&a.ids, a.len, &ids.ids, ids.len),
-        numbers::STAGED_NOT_TRACKED,
-    );
+    let v = fault(first_out(staged, g, ids, n), numbers::STAGED_NOT_TRACKED);
     let w = fault(
-        first_out(&a.ids, a.len, &b.ids, b.len),
+        first_out(staged, g, outgoing, o),
         numbers::STAGED_NOT_OUTGOING,
     );
     sooner(v, w)
 }
 
-// 13, 14: if not joint.
-fn check_single(conf: Configuration) -> Verdict
-    ensures { λ r. ⌜ r ≡ verdictOf (singleWalk (confOf conf)) ⌝ }
+// 13, 14: if not joint; whether there is a staged id, and the flag.
+pub fn check_single(is_joint: bool, staged: bool, auto_leave: bool) -> Verdict
+    ensures { λ r. ⌜ r ≡ verdictOf (singleWalk «is_joint» staged «auto_leave») ⌝ }
 {
-    if joint(conf) {
+    if is_joint {
         return fault(Found { some: false, id: 0 }, numbers::ACCEPTED);
     }
-    if !conf.learners_next.is_empty() {
+    if staged {
         return fault(Found { some: true, id: 0 }, numbers::STAGED_WHILE_NOT_JOINT);
     }
     fault(
         Found {
-            some: conf.auto_leave,
+            some: auto_leave,
             id: 0,
         },
         numbers::AUTO_LEAVE_WHILE_NOT_JOINT,

@@ -23,7 +23,7 @@ use Rattle.rules.proofs.Plain.{changesBox}
 use Rattle.rules.proofs.Boxes.{Sound, boxAt, spot}
 use Rattle.rules.proofs.Changes.{After, Fine, change-done, changes-done, here, ids-enrol, last-says, now, stands-here, tracked-now}
 use Rattle.rules.proofs.Check.{Passes, check-of, passes-of}
-use Rattle.rules.proofs.Steps.{Ordered, auto-sound, enter-sound, leave-sound}
+use Rattle.rules.proofs.Steps.{Checked, Ordered, auto-sound, enter-sound, leave-sound}
 
 -- ** At one of the seven standings the check finds no fault
 
@@ -117,7 +117,7 @@ passes-sound c ps s q =
 
 -- ** The second check of simple and enter never refuses
 
-module _ (u : State) (o : Ordered u) (r : Progress) (j : joint (u .conf) ≡ false) where
+module _ (u : State) (o : Checked u) (r : Progress) (j : joint (u .conf) ≡ false) where
   abbrev up : ascending (ids (u .peers)) ≡ true
   up = o .sound .ids↑
 

@@ -18,5 +18,6 @@ pub mod Numbers
 pub mod Thirteen
 pub mod Accept
 pub mod Singles
+pub mod Unplug
 pub mod RoundTrip
 pub mod Theorems

@@ -27,7 +27,7 @@ use Rattle.rules.proofs.Plain.{changesBox}
 use Rattle.rules.proofs.Boxes.{Sound, boxAt, spot}
 use Rattle.rules.proofs.Changes.{After, changes-done, now}
 use Rattle.rules.proofs.Check.{Passes, passes-of}
-use Rattle.rules.proofs.Steps.{Ordered, Stepped, enter-box, isIdle, no-joint}
+use Rattle.rules.proofs.Steps.{Ordered, Stepped, enter-box, isIdle, no-joint, ordered-checked}
 use Rattle.rules.proofs.Order.{apply-ok, apply-ordered, asked, formed-of, ordered-of}
 use Rattle.rules.proofs.Demand3.{Leads, Reached, calls-lead, length-of}
 use Rattle.rules.proofs.Whole.{whole-accepted}
@@ -338,7 +338,7 @@ module _ (s : State) (o : Ordered s) (k : Reached s) (m n : ℕ) where
     fit : (w : Work) × (changes (ids (u .peers)) cs (start (entering (u .conf))) ≡ done w) × Within r′ (u .peers) up′ T T↑ (o .few) w
     unfolding lists enrol
     fit =
-        changes-fit r′ (u .peers) up′ T T↑ (o .few) cs (start (entering (u .conf))) (fine-enter u ou r′ ju) (added out (p .outgoing-tracked) .within)
+        changes-fit r′ (u .peers) up′ T T↑ (o .few) cs (start (entering (u .conf))) (fine-enter u (ordered-checked u ou) r′ ju) (added out (p .outgoing-tracked) .within)
         (inside-all removeNode out (p .outgoing-tracked) (all addNode inc ++ (all addLearner lrn ++ all addLearner stg))
         (inside-all addNode inc (p .incoming-tracked) (all addLearner lrn ++ all addLearner stg) (inside-all addLearner lrn (p .learner-tracked) (all addLearner stg) (inside-only addLearner stg (p .staged-tracked)))))
 
@@ -346,7 +346,7 @@ module _ (s : State) (o : Ordered s) (k : Reached s) (m n : ℕ) where
     w = fit .0
 
     a : After r′ (u .peers) up′ cs (start (entering (u .conf))) w
-    a = changes-done r′ (u .peers) up′ cs (start (entering (u .conf))) (fit .0) (fit .1) (fine-enter u ou r′ ju)
+    a = changes-done r′ (u .peers) up′ cs (start (entering (u .conf))) (fit .0) (fit .1) (fine-enter u (ordered-checked u ou) r′ ju)
 
     joint-box : (y : ℕ) → eqb y 0 ≡ false → changesBox r′ y cs (enterBox (on (memb y out) r addNode nothing)) ≡ jointly r r′ (spot (s .conf) (s .peers) y)
     joint-box y z =
@@ -379,7 +379,7 @@ module _ (s : State) (o : Ordered s) (k : Reached s) (m n : ℕ) where
             ∙ sym (incoming-of (s .conf) (s .peers) (o .sound) (q .0)) ∙ q .1)
 
     accepts : enterOf u (s .conf .autoLeave) cs ≡ accepted (withAuto (s .conf .autoLeave) (w .conf)) (w .log)
-    accepts = enter-accepted u ou r′ ju cs w right (s .conf .autoLeave) left (fit .1)
+    accepts = enter-accepted u (ordered-checked u ou) r′ ju cs w right (s .conf .autoLeave) left (fit .1)
 
     total : length cs ≤ 256
     unfolding lists

@@ -23,7 +23,7 @@ use Rattle.rules.proofs.Sets.{above-less, and-left, and-right, length-p
 use Rattle.rules.proofs.Plain.{changesBox}
 use Rattle.rules.proofs.Boxes.{Sound, boxAt}
 use Rattle.rules.proofs.Changes.{After, Fine, changes-done, named, now}
-use Rattle.rules.proofs.Steps.{Ordered, Stepped}
+use Rattle.rules.proofs.Steps.{Checked, Ordered, Stepped, ordered-checked}
 use Rattle.rules.proofs.Order.{apply-ok, apply-ordered, asked}
 use Rattle.rules.proofs.Accept.{Within, changes-fit, fine-start, simple-accepted}
 
@@ -73,7 +73,7 @@ module _ (x : ℕ) (xs ys : List ℕ) (a : ascending xs ≡ true) (b : ascending
       go y false e k = absurd (true≢false (sym k ∙ ap (λ (c : Bool). c && not (memb y ys)) (h y e) ∙ last (memb y ys)))
 
 -- at most one id comes or goes
-near : (x : ℕ) (xs ys : List ℕ) → ascending xs ≡ true → ascending ys ≡ true → ((y : ℕ) → eqb x y ≡ false → memb y xs ≡ memb y ys) → leb 2 (difference xs ys) ≡ false
+pub near : (x : ℕ) (xs ys : List ℕ) → ascending xs ≡ true → ascending ys ≡ true → ((y : ℕ) → eqb x y ≡ false → memb y xs ≡ memb y ys) → leb 2 (difference xs ys) ≡ false
 near x xs ys a b h = go (memb x xs) refl
   where
     back : (y : ℕ) → eqb x y ≡ false → memb y ys ≡ memb y xs
@@ -157,6 +157,9 @@ module _ (n : ℕ) (T : List ℕ) (T↑ : ascending T ≡ true) (T64 : length T 
     abbrev up : ascending (ids (u .peers)) ≡ true
     up = o .sound .ids↑
 
+    abbrev oc : Checked u
+    oc = ordered-checked u o
+
     one-step : (c : Change) → memb (c .id) T ≡ true → eqb (c .id) 0 ≡ false
         → ((v : Work) → After r (u .peers) up (c ∷ []) (start (u .conf)) v → isEmpty (v .conf .incoming) ≡ false) → Ran n T u (simpleStep (c ∷ []) ∷ []) (c ∷ [])
     unfolding run enrol ask
@@ -172,16 +175,16 @@ module _ (n : ℕ) (T : List ℕ) (T↑ : ascending T ≡ true) (T64 : length T 
         }
       where
         fit : (v : Work) × (changes (ids (u .peers)) (c ∷ []) (start (u .conf)) ≡ done v) × Within r (u .peers) up T T↑ T64 v
-        fit = changes-fit r (u .peers) up T T↑ T64 (c ∷ []) (start (u .conf)) (fine-start u o r j) i (m, tt)
+        fit = changes-fit r (u .peers) up T T↑ T64 (c ∷ []) (start (u .conf)) (fine-start u oc r j) i (m, tt)
 
         v : Work
         v = fit .0
 
         a : After r (u .peers) up (c ∷ []) (start (u .conf)) v
-        a = changes-done r (u .peers) up (c ∷ []) (start (u .conf)) v (fit .1) (fine-start u o r j)
+        a = changes-done r (u .peers) up (c ∷ []) (start (u .conf)) v (fit .1) (fine-start u oc r j)
 
         acc : simpleOf u (c ∷ []) ≡ accepted (v .conf) (v .log)
-        acc = simple-accepted u o r j (c ∷ []) v (k v a) (fit .1) (few-differ r (u .peers) up c (start (u .conf)) v (fine-start u o r j) a z)
+        acc = simple-accepted u oc r j (c ∷ []) v (k v a) (fit .1) (few-differ r (u .peers) up c (start (u .conf)) v (fine-start u oc r j) a z)
 
         d : Stepped u r (simpleStep (c ∷ [])) (v .conf) (v .log)
         d = asked u o r (simpleStep (c ∷ [])) (omega arith) (v .conf) (v .log) acc
@@ -189,13 +192,13 @@ module _ (n : ℕ) (T : List ℕ) (T↑ : ascending T ≡ true) (T64 : length T 
     voter-step : (x : ℕ) → memb x T ≡ true → eqb x 0 ≡ false → Ran n T u (simpleStep (record { kind = addNode; id = x } ∷ []) ∷ []) (record { kind = addNode; id = x } ∷ [])
     voter-step x m z =
         one-step (record { kind = addNode; id = x }) m z (λ v a. memb-some x (v .conf .incoming)
-        (incoming-after r (u .peers) up (record { kind = addNode; id = x }) (start (u .conf)) v (fine-start u o r j) a z x ∙ rw (eq-eqb x x refl) (voter-row (boxAt (u .conf) (enrol r [] (u .peers)) x .standing))))
+        (incoming-after r (u .peers) up (record { kind = addNode; id = x }) (start (u .conf)) v (fine-start u oc r j) a z x ∙ rw (eq-eqb x x refl) (voter-row (boxAt (u .conf) (enrol r [] (u .peers)) x .standing))))
 
     learner-step : (x q : ℕ) → memb x T ≡ true → eqb x 0 ≡ false → memb q (u .conf .incoming) ≡ true → eqb x q ≡ false
         → Ran n T u (simpleStep (record { kind = addLearner; id = x } ∷ []) ∷ []) (record { kind = addLearner; id = x } ∷ [])
     learner-step x q m z h e =
         one-step (record { kind = addLearner; id = x }) m z (λ v a. memb-some q (v .conf .incoming)
-        (incoming-after r (u .peers) up (record { kind = addLearner; id = x }) (start (u .conf)) v (fine-start u o r j) a z q ∙ rw e h))
+        (incoming-after r (u .peers) up (record { kind = addLearner; id = x }) (start (u .conf)) v (fine-start u oc r j) a z q ∙ rw e h))
 
   pub ran-none : (u : State) → Ordered u → joint (u .conf) ≡ false → ((y : ℕ) → memb y (ids (u .peers)) ≡ true → memb y T ≡ true) → Ran n T u [] []
   unfolding run changesBox

@@ -49,7 +49,7 @@ pub record Checked (s : State) : Type 0 where
   pub few : length (ids (s .peers)) ≤ 64
   pub checked : check (isTracked s) (s .conf) ≡ ok
 
-pub ordered-checked : (s : State) → Ordered s → Checked s
+abbrev pub ordered-checked : (s : State) → Ordered s → Checked s
 ordered-checked s o = record { sound = o .sound; few = o .few; checked = o .checked }
 
 -- what an accepted step answers

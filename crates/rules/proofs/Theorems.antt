@@ -19,6 +19,7 @@ use Rattle.rules.specs.Apply.{applyConf}
 use Rattle.rules.specs.Restore.{Step, simpleStep, enterStep, leaveStep, ask}
 use Rattle.rules.specs.Sequences.{Call, perform, afterCalls}
 use Rattle.rules.specs.Boxes.{Box, changeBox, naming}
+use Rattle.rules.specs.Unplug.{quick, straight, unplug}
 use Rattle.rules.specs.Rust.{byKind}
 use Rattle.rules.specs.Demands.{Kept, ComesBack, Whole}
 use Rattle.rules.proofs.Plain.{changesBox}
@@ -35,6 +36,7 @@ use Rattle.rules.proofs.Whole.{whole}
 use Rattle.rules.proofs.Demand3.{demand-3, read-short, others-alter-nothing}
 use Rattle.rules.proofs.Table.{change-agrees}
 use Rattle.rules.proofs.Thirteen.{check-never-13, call-never-13}
+use Rattle.rules.proofs.Unplug.{unplug-quick, unplug-straight}
 use Rattle.rules.proofs.RoundTrip.{empty-trip, fresh-in-order, order-trip, round-trip}
 use borrow.Author.Tests.{not-false}
 
@@ -145,6 +147,16 @@ fresh-leads-to-order m cs = demand-3 (fresh m) (fresh-in-order m) cs .ordered
 -- refused whole restore counts no steps", an accepted one its steps
 pub restore-is-whole : (s : State) (cs : ConfState) (n : ℕ) → Whole s cs n
 restore-is-whole = whole
+
+-- ** Can this box be unplugged?: document 02, d)
+
+-- of any state the full call's number and id are told without it: 1, 6, the check, and whether a voter is left
+pub unplug-is-told : (s : State) (x : ℕ) → unplug s x ≡ straight s x
+unplug-is-told = unplug-straight
+
+-- "For every state in order and every id": from joint or not, and whether another incoming voter exists
+pub unplug-is-quick : (s : State) → inOrder s ≡ true → (x : ℕ) → unplug s x ≡ quick s x
+unplug-is-quick = unplug-quick
 
 -- ** The demands
 

@@ -10,6 +10,7 @@ pub mod Apply
 pub mod Restore
 pub mod Sequences
 pub mod Boxes
+pub mod Unplug
 pub mod Rust
 pub mod Demands
 pub mod Rows
@@ -18,3 +19,4 @@ pub mod Cases
 pub mod Refusals
 pub mod Faults
 pub mod IdleExamples
+pub mod UnplugExamples

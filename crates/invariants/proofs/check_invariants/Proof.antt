@@ -1,7 +1,12 @@
 -- `invariants::check_invariants` meets its contract: the first fault of the four parts. Assumes nothing.
 use borrow.Author.Needs.{needs}
+use mathlib.Core.Bool.{Bool, not}
+use mathlib.Core.Path.{ap, _∙_}
+use Rattle.rules.specs.Check.{joint}
 use Rattle.idset.specs.Set.{held}
 use Rattle.tracker.specs.Bridge.{confOf}
+use Rattle.tracker.specs.Apply.{verdictOf}
+use Rattle.invariants.specs.Check.{singleWalk}
 use Rattle.invariants.proofs.Parts.{at-voters, at-learners, at-staged, at-single}
 use Rattle.invariants.proofs.check_invariants.Statement.{statement}
 use Rattle.invariants.proofs.check_invariants.Tie as tie
@@ -11,16 +16,17 @@ check-voters-requires c κs = search needs
 
 returns : tie.Need-returns
 returns c =
-    let g = c .before .before .before .args in
-    at-voters (held (g .ids)) (confOf (g .conf)) (c .before .before .check-voters .ensures) (c .if1 .taken)
+    let g = c .before .before .before .before .before .before .before .before .before .before .before .before .before .before .before .before .args in
+    at-voters (held (g .t2)) (confOf (g .conf)) (c .before .before .check-voters .ensures) (c .if1 .taken)
 
 check-learners-requires : tie.Need-check-learners-requires
 check-learners-requires c κs = search needs
 
 returns-2 : tie.Need-returns-2
 returns-2 c =
-    let g = c .before .before .before .before .before .before .args in
-    at-learners (held (g .ids)) (confOf (g .conf)) (c .before .before .before .before .before .check-voters .ensures) (c .before .before .before .if1 .left)
+    let one = c .before .before .before .before .before .before .before .before .before .before .before .before .before .before .before in
+    let g = one .before .before .before .before .before .before .before .before .before .before .before .before .before .before .before .before .args in
+    at-learners (held (g .t2)) (confOf (g .conf)) (one .before .before .check-voters .ensures) (one .if1 .left)
     (c .before .before .check-learners .ensures) (c .if2 .taken)
 
 check-staged-requires : tie.Need-check-staged-requires
@@ -28,18 +34,32 @@ check-staged-requires c κs = search needs
 
 returns-3 : tie.Need-returns-3
 returns-3 c =
-    let g = c .before .before .before .before .before .before .before .before .before .args in
-    at-staged (held (g .ids)) (confOf (g .conf)) (c .before .before .before .before .before .before .before .before .check-voters .ensures) (c .before .before .before .before .before .before .if1 .left)
-    (c .before .before .before .before .before .check-learners .ensures) (c .before .before .before .if2 .left) (c .before .before .check-staged .ensures) (c .if3 .taken)
+    let two = c .before .before .before .before .before .before .before .before .before .before .before .before in
+    let one = two .before .before .before .before .before .before .before .before .before .before .before .before .before .before .before in
+    let g = one .before .before .before .before .before .before .before .before .before .before .before .before .before .before .before .before .args in
+    at-staged (held (g .t2)) (confOf (g .conf)) (one .before .before .check-voters .ensures) (one .if1 .left)
+    (two .before .before .check-learners .ensures) (two .if2 .left) (c .before .before .check-staged .ensures) (c .if3 .taken)
+
+joint-requires : tie.Need-joint-requires
+joint-requires c κs = search needs
+
+is-empty-requires : tie.Need-is-empty-requires
+is-empty-requires c κs = search needs
 
 check-single-requires : tie.Need-check-single-requires
 check-single-requires c κs = search needs
 
 returns-4 : tie.Need-returns-4
 returns-4 c =
-    let g = c .before .before .before .before .before .before .before .before .before .before .args in
-    at-single (held (g .ids)) (confOf (g .conf)) (c .before .before .before .before .before .before .before .before .before .check-voters .ensures) (c .before .before .before .before .before .before .before .if1 .left)
-    (c .before .before .before .before .before .before .check-learners .ensures) (c .before .before .before .before .if2 .left) (c .before .before .before .check-staged .ensures) (c .before .if3 .left) (c .check-single .ensures)
+    let three = c .before .before .before in
+    let two = three .before .before .before .before .before .before .before .before .before .before .before .before in
+    let one = two .before .before .before .before .before .before .before .before .before .before .before .before .before .before .before in
+    let g = one .before .before .before .before .before .before .before .before .before .before .before .before .before .before .before .before .args in
+    at-single (held (g .t2)) (confOf (g .conf)) (one .before .before .check-voters .ensures) (one .if1 .left)
+    (two .before .before .check-learners .ensures) (two .if2 .left) (three .before .before .check-staged .ensures) (three .if3 .left)
+    (c .check-single .ensures
+    ∙ ap (λ (j : Bool). verdictOf (singleWalk j (not (c .before .is-empty .result)) (g .conf .«auto_leave»))) (c .before .before .joint .ensures)
+    ∙ ap (λ (e : Bool). verdictOf (singleWalk (joint (confOf (g .conf))) (not e) (g .conf .«auto_leave»))) (c .before .is-empty .ensures))
 
 pub check-invariants-spec : {M : Type 1} → statement M
 check-invariants-spec =
@@ -51,5 +71,7 @@ check-invariants-spec =
     returns-2
     check-staged-requires
     returns-3
+    joint-requires
+    is-empty-requires
     check-single-requires
     returns-4)

@@ -1,7 +1,6 @@
 -- `invariants::check_learners` meets its contract: the soonest of three walks' faults. Assumes nothing.
 use borrow.Author.Needs.{needs}
-use Rattle.idset.specs.Set.{held}
-use Rattle.tracker.specs.Bridge.{confOf}
+use lib.ListN.{take}
 use Rattle.invariants.proofs.Parts.{learners-say}
 use Rattle.invariants.proofs.check_learners.Statement.{statement}
 use Rattle.invariants.proofs.check_learners.Tie as tie
@@ -32,11 +31,10 @@ sooner-requires-2 c κs = search needs
 
 returns : tie.Need-returns
 returns c =
-    let b = c .before .before .before .before .before .before .before .before .before .before in
-    let g = b .before .before .before .before .before .before .before .before .before .before .before .before .before .before .before .before .before .before .before .args in
-    learners-say (held (g .t2)) (confOf (g .conf)) (b .before .before .before .before .before .before .before .before .before .first-out .ensures) (b .before .before .before .before .before .before .before .before .fault .ensures)
-    (b .before .first-in .ensures) (b .fault2 .ensures) (c .before .before .before .first-in2 .ensures) (c .before .before .fault3 .ensures)
-    (c .before .sooner .ensures) (c .sooner2 .ensures)
+    let g = c .before .before .before .before .before .before .before .before .before .before .before .before .args in
+    learners-say (take (g .n) (g .ids .now)) (take (g .i) (g .incoming .now)) (take (g .o) (g .outgoing .now)) (take (g .l) (g .learners .now))
+    (c .before .before .before .before .before .before .before .first-out .ensures) (c .before .before .before .before .before .before .fault .ensures) (c .before .before .before .before .before .first-in .ensures) (c .before .before .before .before .fault2 .ensures)
+    (c .before .before .before .first-in2 .ensures) (c .before .before .fault3 .ensures) (c .before .sooner .ensures) (c .sooner2 .ensures)
 
 pub check-learners-spec : {M : Type 1} → statement M
 check-learners-spec =

@@ -4,17 +4,11 @@ use Rattle.invariants.proofs.Parts.{single-joint, single-staged, single
 use Rattle.invariants.proofs.check_single.Statement.{statement}
 use Rattle.invariants.proofs.check_single.Tie as tie
 
-joint-requires : tie.Need-joint-requires
-joint-requires c κs = search needs
-
 fault-requires : tie.Need-fault-requires
 fault-requires c κs = search needs
 
 returns : tie.Need-returns
 returns c = search (needs, single-joint)
-
-is-empty-requires : tie.Need-is-empty-requires
-is-empty-requires c κs = search needs
 
 fault-requires-2 : tie.Need-fault-requires-2
 fault-requires-2 c κs = search needs
@@ -29,14 +23,4 @@ returns-3 : tie.Need-returns-3
 returns-3 c = search (needs, single-flag)
 
 pub check-single-spec : {M : Type 1} → statement M
-check-single-spec =
-    tie.close
-    (tie.spec
-    joint-requires
-    fault-requires
-    returns
-    is-empty-requires
-    fault-requires-2
-    returns-2
-    fault-requires-3
-    returns-3)
+check-single-spec = tie.close (tie.spec fault-requires returns fault-requires-2 returns-2 fault-requires-3 returns-3)

@@ -1,7 +1,6 @@
 -- `invariants::check_staged` meets its contract: the sooner of two walks' faults. Assumes nothing.
 use borrow.Author.Needs.{needs}
-use Rattle.idset.specs.Set.{held}
-use Rattle.tracker.specs.Bridge.{confOf}
+use lib.ListN.{take}
 use Rattle.invariants.proofs.Parts.{staged-say}
 use Rattle.invariants.proofs.check_staged.Statement.{statement}
 use Rattle.invariants.proofs.check_staged.Tie as tie
@@ -23,8 +22,8 @@ sooner-requires c κs = search needs
 
 returns : tie.Need-returns
 returns c =
-    let g = c .before .before .before .before .before .before .before .before .before .before .before .before .before .before .before .before .before .before .before .args in
-    staged-say (held (g .t2)) (confOf (g .conf)) (c .before .before .before .before .before .before .before .before .before .before .first-out .ensures) (c .before .before .before .before .before .before .before .before .before .fault .ensures)
+    let a = c .before .before .before .before .before .before .before .before .args in
+    staged-say (take (a .n) (a .ids .now)) (take (a .o) (a .outgoing .now)) (take (a .g) (a .staged .now)) (c .before .before .before .before .first-out .ensures) (c .before .before .before .fault .ensures)
     (c .before .before .first-out2 .ensures) (c .before .fault2 .ensures) (c .sooner .ensures)
 
 pub check-staged-spec : {M : Type 1} → statement M

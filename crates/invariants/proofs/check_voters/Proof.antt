@@ -1,7 +1,6 @@
 -- `invariants::check_voters` meets its contract: the sooner of two walks' faults. Assumes nothing.
 use borrow.Author.Needs.{needs}
-use Rattle.idset.specs.Set.{held}
-use Rattle.tracker.specs.Bridge.{confOf}
+use lib.ListN.{take}
 use Rattle.invariants.proofs.Parts.{voters-say}
 use Rattle.invariants.proofs.check_voters.Statement.{statement}
 use Rattle.invariants.proofs.check_voters.Tie as tie
@@ -23,8 +22,8 @@ sooner-requires c κs = search needs
 
 returns : tie.Need-returns
 returns c =
-    let g = c .before .before .before .before .before .before .before .before .before .before .before .before .before .before .before .before .before .before .before .args in
-    voters-say (held (g .t2)) (confOf (g .conf)) (c .before .before .before .before .before .before .before .before .before .before .first-out .ensures) (c .before .before .before .before .before .before .before .before .before .fault .ensures)
+    let g = c .before .before .before .before .before .before .before .before .args in
+    voters-say (take (g .n) (g .ids .now)) (take (g .i) (g .incoming .now)) (take (g .o) (g .outgoing .now)) (c .before .before .before .before .first-out .ensures) (c .before .before .before .fault .ensures)
     (c .before .before .first-out2 .ensures) (c .before .fault2 .ensures) (c .sooner .ensures)
 
 pub check-voters-spec : {M : Type 1} → statement M

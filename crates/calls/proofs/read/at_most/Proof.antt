@@ -1,12 +1,13 @@
 -- `calls::read::at_most` meets its contract: the loop's invariant says what is left to ask. Assumes nothing.
 use native.Mathlib.Omega.{arith}
 use borrow.Author.Needs.{needs}
+use Rattle.calls.specs.Layout.{word}
 use Rattle.calls.proofs.ReadWithin.{Asking, ask-start, ask-room, ask-stop, ask-next, ask-end}
 use Rattle.calls.proofs.read.at_most.Statement.{statement}
 use Rattle.calls.proofs.read.at_most.Tie as tie
 
 abbrev Inv-loop : tie.InvT-loop
-Inv-loop s k n step most at₀ left₀ at left = Asking s k n step most at left
+Inv-loop s k n step most at₀ left₀ at left = Asking (word s) k n step most at left
 
 abbrev μ-loop : tie.MeasureT-loop
 μ-loop s k n step most at₀ left₀ at left = left
