@@ -8,6 +8,7 @@ pub mod ReadWithin
 pub mod WriteCalls
 pub mod WordBlocks
 pub mod Unplugged
+pub mod SameState
 pub mod RoundWords
 pub mod RoundSmall
 pub mod RoundSets

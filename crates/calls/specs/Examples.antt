@@ -10,6 +10,7 @@ use Rattle.tracker.specs.declared.Tracker.{Tracker}
 use Rattle.calls.specs.Layout.{number, word, words, wordsBy, within, withinBy}
 use Rattle.calls.specs.Reply.{bytes, wordBytes, allBytes, confWords, recordsWords, stateWords, entriesWords, logWords, confStateWords}
 use Rattle.calls.specs.Call.{callAnswer, callLeaves, reply, replyWords}
+use Rattle.calls.specs.Unplugs.{unplugAnswer, unplugLeaves}
 
 -- not the most significant byte first; a byte that is not there counts as 0
 pub numbers : (number 2 (1 ∷ 2 ∷ []) 0 ≡ 513) × (number 2 (7 ∷ 1 ∷ 2 ∷ []) 1 ≡ 513) × (number 8 (1 ∷ 2 ∷ []) 0 ≡ 513)
@@ -71,3 +72,8 @@ short-reply = refl
 pub unknown-call : callAnswer (9 ∷ replicate 20215 0) 13960 ≡ 3
 unfolding callAnswer number
 unknown-call = refl
+
+-- a STATE of no words: 1, also where the verdict is too short, and the verdict is as it was; one of 967 zeros and a verdict of one word: 2
+pub no-state : (unplugAnswer [] 0 ≡ 1) × (unplugLeaves [] 1 (9 ∷ []) ≡ 9 ∷ []) × (unplugAnswer (replicate 967 0) 1 ≡ 2)
+unfolding unplugAnswer unplugLeaves
+no-state = (refl, refl, refl)

@@ -33,7 +33,7 @@ unfolding setOf
 empty-or-not = (refl, refl, refl, refl, refl)
 
 pub well-formed-or-not :
-    -- `is_malformed` that is always yes, on no id, on two and on 64
+    -- `is_malformed` and `malformed_in` that are always yes, on no id, on two and on 64
     (wellFormed (setOf []) ≡ true)
     × (wellFormed s15 ≡ true)
     × (wellFormed (setOf (upTo 64 [])) ≡ true)
@@ -45,8 +45,20 @@ pub well-formed-or-not :
     × (wellFormed (counted 1) ≡ false)
     -- a count past the places let in
     × (wellFormed (record { ids = upTo 64 []; len = 65 }) ≡ false)
+    -- `malformed_in` that takes any number of places for 64
+    × (wellFormed (record { ids = upTo 63 []; len = 63 }) ≡ false)
 unfolding setOf wellFormed ascending above zeros
-well-formed-or-not = (refl, refl, refl, refl, refl, refl, refl)
+well-formed-or-not = (refl, refl, refl, refl, refl, refl, refl, refl)
+
+pub zero-or-not :
+    -- `zero_from` that is always no; that looks before `from`
+    (zeros (drop 1 (5 ∷ 0 ∷ 0 ∷ [])) ≡ true)
+    -- that looks at the first place only; that stops before the last
+    × (zeros (drop 1 (5 ∷ 0 ∷ 7 ∷ [])) ≡ false)
+    -- that finds something past the end
+    × (zeros (drop 9 (5 ∷ [])) ≡ true)
+unfolding zeros
+zero-or-not = (refl, refl, refl)
 
 pub inserted :
     -- drops the displaced id 5; says that nothing changed

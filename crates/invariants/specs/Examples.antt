@@ -19,7 +19,7 @@ use Rattle.tracker.specs.Apply.{verdictOf}
 use Rattle.tracker.specs.declared.Verdict.{Verdict}
 use Rattle.tracker.proofs.Bridge.{state-back, tracker-well}
 use Rattle.invariants.specs.Walk.{firstOut, firstIn, nobody, first}
-use Rattle.invariants.specs.Check.{checkWalk, checkOf, inOrderOf}
+use Rattle.invariants.specs.Check.{votersWalk, learnersWalk, stagedWalk, singleWalk, checkWalk, checkOf, inOrderOf}
 
 -- `joint` that asks incoming; that is negated
 pub joint-or-not : (joint (confOf (configurationOf (conf (1 ∷ []) [] [] []))) ≡ false) × (joint (confOf (configurationOf (conf [] (1 ∷ []) [] []))) ≡ true)
@@ -43,6 +43,24 @@ pub walked :
     × (firstIn (take 1 (1 ∷ 2 ∷ [])) (take 1 (2 ∷ [])) ≡ nobody)
 unfolding firstOut firstIn rank firstIs
 walked = (refl, refl, refl, refl, refl, refl, refl)
+
+-- The parts of the check: the tracked ids, and the sets that each asks.
+pub parts :
+    -- `check_voters` that asks incoming first; that asks outgoing alone
+    (votersWalk (4 ∷ []) (3 ∷ []) (2 ∷ []) ≡ fault 7 2)
+    × (votersWalk (4 ∷ []) (3 ∷ []) (4 ∷ []) ≡ fault 7 3)
+    -- `check_learners` that asks 8 of all before 9; that exchanges 9 and 10
+    × (learnersWalk (1 ∷ []) [] (1 ∷ []) (1 ∷ 2 ∷ []) ≡ fault 9 1)
+    × (learnersWalk (1 ∷ []) (1 ∷ []) [] (1 ∷ []) ≡ fault 10 1)
+    -- `check_staged` that takes 12 as the Rust's text has it; that gives 12 before 11
+    × (stagedWalk (1 ∷ []) (1 ∷ []) (1 ∷ []) ≡ ok)
+    × (stagedWalk [] [] (1 ∷ []) ≡ fault 11 1)
+    -- `check_single` that asks where it is joint; that gives 14 before 13
+    × (singleWalk true true true ≡ ok)
+    × (singleWalk false true true ≡ fault 13 0)
+    × (singleWalk false false true ≡ fault 14 0)
+unfolding firstOut firstIn rank firstIs
+parts = (refl, refl, refl, refl, refl, refl, refl, refl, refl)
 
 -- The tracked ids, and the configuration.
 pub faults :
