@@ -22,7 +22,6 @@ use Rattle.tracker.specs.declared.Verdict.{Verdict}
 use Rattle.tracker.proofs.Bridge.{tracker-formed}
 use Rattle.changer.specs.Before.{mayUnplug, ownCheck}
 use Rattle.changer.specs.Calls.{answerOf, simpleAnswer, unplugOf}
-use Rattle.changer.specs.declared.Answer.{Answer}
 use Rattle.changer.proofs.Same.{own-check}
 
 -- number and id of an answer's struct are those of the answer
@@ -37,20 +36,22 @@ module _ (t : Tracker) (x : ℕ) where
   abbrev after : rules.Verdict
   after = refuse (joint (s .conf)) 6 0 ▸ ownCheck t ▸ refuse (not (voterLeft x (s .conf .incoming))) 17 0
 
-  tested : trackerWellFormed t ≡ true → verdictIn (simple s (x ∷ []) (1 ∷ [])) ≡ after
-  unfolding unplug straight
+  -- of a well-formed state, what the rules say
+  pub unplug-rules : trackerWellFormed t ≡ true → unplugOf t x ≡ verdictOf (unplug s x)
+  unfolding unplugOf simpleAnswer unplug
+  unplug-rules w = rw w (told (t .conf) (simpleIdles s (x ∷ []) (1 ∷ [])) (simple s (x ∷ []) (1 ∷ [])))
+
+  pub unplug-ill : trackerWellFormed t ≡ false → unplugOf t x ≡ verdictOf (fault 1 0)
+  unfolding unplugOf simpleAnswer
+  unplug-ill w = rw w
+
+  tested : trackerWellFormed t ≡ true → unplug s x ≡ after
+  unfolding straight
   tested w = unplug-is-told s x ∙ rw (tracker-formed t w, ← own-check t w)
 
   pub unplug-told : unplugOf t x ≡ mayUnplug t x
-  unfolding unplugOf simpleAnswer
   unplug-told = go (trackerWellFormed t) refl
     where
-      full : Answer
-      full = answerOf (t .conf) (simpleIdles s (x ∷ []) (1 ∷ [])) (simple s (x ∷ []) (1 ∷ []))
-
-      ill : Answer
-      ill = answerOf (t .conf) 0 (refused 1 0)
-
-      go : (b : Bool) → trackerWellFormed t ≡ b → _≡_ {A = Verdict} (record { number = cond b full ill .number; id = cond b full ill .id }) (cond b (verdictOf after) (verdictOf (fault 1 0)))
-      go true w = told (t .conf) (simpleIdles s (x ∷ []) (1 ∷ [])) (simple s (x ∷ []) (1 ∷ [])) ∙ ap verdictOf (tested w)
-      go false w = refl
+      go : (b : Bool) → trackerWellFormed t ≡ b → unplugOf t x ≡ cond b (verdictOf after) (verdictOf (fault 1 0))
+      go true w = unplug-rules w ∙ ap verdictOf (tested w)
+      go false w = unplug-ill w

@@ -20,6 +20,7 @@ use Rattle.listing.proofs.line.«put_answer».Reads as listing-put-answer
 use Rattle.listing.specs.declared.Session.{Session}
 use Rattle.listing.specs.declared.Turned.{Turned}
 use Rattle.calls.proofs.«dimecandle_call».Reads as calls-call
+use Rattle.calls.proofs.unplug.«dimecandle_unplug».Reads as calls-unplug
 use Rattle.calls.proofs.read.word.Reads as calls-word
 use Rattle.calls.proofs.read.holds.Reads as calls-holds
 use Rattle.calls.proofs.read.state.Reads as calls-state
@@ -78,6 +79,7 @@ listing = search (equation, put-settled, turned, both)
 
 pub record Entries : Type 0 where
   pub dimecandle-call : SettlesWith calls-call.Learnt (λ κs e. now (e .1 .0))
+  pub dimecandle-unplug : SettlesWith calls-unplug.Learnt (λ κs e. now (e .1 .1 .0))
   pub word : Settles calls-word.Learnt
   pub holds : Settles calls-holds.Learnt
   pub state : Settles calls-state.Learnt

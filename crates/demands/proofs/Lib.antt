@@ -13,4 +13,5 @@ pub mod Settled
 pub mod Lent
 pub mod AllSettled
 pub mod Bytes
+pub mod Unplugs
 pub mod Theorems

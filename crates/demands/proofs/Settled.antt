@@ -14,6 +14,8 @@ use Rattle.idset.proofs.IdSet.insert.Reads as idset-insert
 use Rattle.idset.proofs.IdSet.remove.Reads as idset-remove
 use Rattle.idset.proofs.IdSet.union.Reads as idset-union
 use Rattle.idset.proofs.«contains_in».Reads as idset-contains-in
+use Rattle.idset.proofs.«malformed_in».Reads as idset-malformed-in
+use Rattle.idset.proofs.«zero_from».Reads as idset-zero-from
 use Rattle.idset.proofs.seek.Reads as idset-seek
 use Rattle.idset.proofs.«stands_at».Reads as idset-stands-at
 use Rattle.idset.proofs.«next_of».Reads as idset-next-of
@@ -31,6 +33,10 @@ use Rattle.tracker.proofs.apply.refused.Reads as tracker-refused
 use Rattle.tracker.proofs.Tracker.«to_conf_state».Reads as tracker-to-conf-state
 use Rattle.invariants.proofs.joint.Reads as invariants-joint
 use Rattle.invariants.proofs.«check_invariants».Reads as invariants-check-invariants
+use Rattle.invariants.proofs.«check_voters».Reads as invariants-check-voters
+use Rattle.invariants.proofs.«check_learners».Reads as invariants-check-learners
+use Rattle.invariants.proofs.«check_staged».Reads as invariants-check-staged
+use Rattle.invariants.proofs.«check_single».Reads as invariants-check-single
 use Rattle.invariants.proofs.«first_out».Reads as invariants-first-out
 use Rattle.invariants.proofs.«first_in».Reads as invariants-first-in
 use Rattle.invariants.proofs.check.Reads as invariants-check
@@ -85,6 +91,8 @@ pub record Sets : Type 0 where
   pub remove : Settles idset-remove.Learnt
   pub union : Settles idset-union.Learnt
   pub contains-in : Settles idset-contains-in.Learnt
+  pub malformed-in : Settles idset-malformed-in.Learnt
+  pub zero-from : Settles idset-zero-from.Learnt
   pub seek : Settles idset-seek.Learnt
   pub stands-at : Settles idset-stands-at.Learnt
   pub next-of : Settles idset-next-of.Learnt
@@ -125,6 +133,10 @@ tracker = search (equation, lent, lent-exit)
 pub record Invariants : Type 0 where
   pub joint : Settles invariants-joint.Learnt
   pub check-invariants : Settles invariants-check-invariants.Learnt
+  pub check-voters : Settles invariants-check-voters.Learnt
+  pub check-learners : Settles invariants-check-learners.Learnt
+  pub check-staged : Settles invariants-check-staged.Learnt
+  pub check-single : Settles invariants-check-single.Learnt
   pub first-out : Settles invariants-first-out.Learnt
   pub first-in : Settles invariants-first-in.Learnt
   pub check : Settles invariants-check.Learnt

@@ -18,8 +18,8 @@ use Rattle.invariants.specs.Check.{inOrderOf}
 use Rattle.changer.specs.Calls.{enterAnswer, leaveAnswer, simpleAnswer}
 use Rattle.restore.proofs.Restored.{stepped-runs}
 use Rattle.demands.specs.Sequences.{Call, afterCalls}
-use Rattle.demands.specs.Demands.{CanBeLeft, ComesBack, Counted, Kept, Whole}
-use Rattle.demands.specs.Statements.{OthersAlterNeither, RefusedUntouched}
+use Rattle.demands.specs.Demands.{CanBeLeft, ComesBack, Counted, Kept, Unplugged, Whole}
+use Rattle.demands.specs.Statements.{AsksSimple, OneAnswer, OthersAlterNeither, RefusedUntouched}
 use Rattle.demands.proofs.Boxes.{kept}
 use Rattle.demands.proofs.Bytes.{call, no-call, replay-no-room, replay-too-long}
 use Rattle.demands.proofs.Counts.{all-counted}
@@ -27,6 +27,7 @@ use Rattle.demands.proofs.Ordered.{can-be-left, empty-back, fresh-leads
 use Rattle.demands.proofs.Others.{others}
 use Rattle.demands.proofs.Refused.{applied-untouched, apply-untouched, asked-untouched, restore-untouched, steps-stay, steps-untouched, whole-untouched, written-nothing}
 use Rattle.demands.proofs.RoundTrip.{reached-back}
+use Rattle.demands.proofs.Unplugs.{no-unplug, one-answer, unplugged}
 use Rattle.demands.proofs.Whole.{whole}
 use Rattle.demands.proofs.AllSettled.{Settled, all-settled}
 
@@ -52,6 +53,7 @@ refused-untouched t =
       no-room = replay-no-room;
       no-call = no-call;
       call = call;
+      no-unplug = no-unplug;
     }
 
 -- Demand 2's last sentence: "A configuration .., written out and restored to fresh, comes back the same." It was reached from fresh by any
@@ -94,6 +96,15 @@ empty-comes-back = empty-back
 -- Document 02, h): "No change list makes such a state from fresh", nor does any sequence of calls.
 pub fresh-leads-to-order : (m : ℕ) (cs : List Call) → inOrderOf (afterCalls (trackerOf (fresh m)) cs) ≡ true
 fresh-leads-to-order = fresh-leads
+
+-- Document 02, d): "For every state in order and every id the number and id returned equal those of `simple` with that single removal. Any other state
+-- gets the full call's answer."
+pub box-is-unplugged : (t : Tracker) (x : ℕ) → Unplugged t x
+box-is-unplugged = unplugged
+
+-- and so do the two entries: dimecandle_unplug of a state's words, and dimecandle_call of a request with that state
+pub entries-agree : (request state : List ℕ) (x : ℕ) → AsksSimple request state x → OneAnswer request state x
+entries-agree = one-answer
 
 -- Document 01: "That any two results allowed by it are equal is itself proved".
 pub settled : Settled

@@ -2,26 +2,30 @@
 use Prim.Native.Nat.{ℕ, _-_, _≤_}
 use mathlib.Core.Path.{_≡_}
 use mathlib.Core.Bool.{Bool, true, false}
-use mathlib.Core.List.{List, []}
+use mathlib.Core.List.{List, [], _∷_}
 use lib.Dec.{eqb}
 use lib.ListN.{length}
 use Rattle.progress.specs.Record.{freshRecord}
 use Rattle.rules.specs.Ids.{memb}
 use Rattle.rules.specs.State.{fresh, members}
+use Rattle.rules.specs.Answers.{fault}
 use Rattle.rules.specs.Table.{placesOf, placesIn}
 use Rattle.rules.specs.Calls.{gone, leaving, removals}
 use Rattle.rules.specs.Boxes.{found, recordOf, replay, events}
 use Rattle.rules.specs.Restore.{restoreSteps}
 use Rattle.rules.specs.Sequences.{inTurn}
 use Rattle.rules.specs.Idle.{enterWorks, simpleWorks}
+use Rattle.rules.specs.Unplug.{quick, straight}
 use Rattle.idset.specs.Set.{held}
 use Rattle.tracker.specs.Bridge.{changeLogOf, confOf, configurationOf, listsOf, peersOf, stateOf, trackerOf}
+use Rattle.tracker.specs.Apply.{verdictOf}
 use Rattle.tracker.specs.ConfStates.{writtenOf}
+use Rattle.tracker.specs.Form.{trackerWellFormed}
 use Rattle.tracker.specs.declared.ConfState.{ConfState}
 use Rattle.tracker.specs.declared.Tracker.{Tracker}
 use Rattle.tracker.specs.declared.Outcome.{Outcome}
 use Rattle.invariants.specs.Check.{inOrderOf}
-use Rattle.changer.specs.Calls.{enterAnswer, leaveAnswer, simpleAnswer}
+use Rattle.changer.specs.Calls.{enterAnswer, leaveAnswer, simpleAnswer, unplugOf}
 use Rattle.changer.specs.declared.Answer.{Answer}
 use Rattle.restore.specs.Restore.{appliedTo, restoreOf, stepByStepOf}
 use Rattle.demands.specs.Sequences.{Call, afterCalls, deeds, deedsOf, boxIn, restoreCall, stepByStepCall}
@@ -80,3 +84,13 @@ pub record Whole (t : Tracker) (cs : ConfState) (n : ℕ) : Type 0 where
   pub accepted : restoreOf t cs n .number ≡ 0 → restoreOf t cs n ≡ stepByStepOf t cs n
   pub its-steps : restoreOf t cs n .number ≡ 0 → deedsOf t (restoreCall cs n) ≡ inTurn n (restoreSteps (listsOf cs))
   pub same-steps : restoreOf t cs n .number ≡ 0 → deedsOf t (stepByStepCall cs n) ≡ inTurn n (restoreSteps (listsOf cs))
+
+-- Document 02, d), of the box x and the tracker t: what is answered is the number and id of `simple` with that single removal, 1 being RemoveNode.
+pub record Unplugged (t : Tracker) (x : ℕ) : Type 0 where
+  pub number : unplugOf t x .number ≡ simpleAnswer t (x ∷ []) (1 ∷ []) .number
+  pub id : unplugOf t x .id ≡ simpleAnswer t (x ∷ []) (1 ∷ []) .id
+  -- of a state in order it is told by "joint or not, and whether another incoming voter exists"
+  pub in-order : inOrderOf t ≡ true → unplugOf t x ≡ verdictOf (quick (stateOf t) x)
+  -- of any well-formed one by these and the check, and of a malformed one it is 1
+  pub well-formed : trackerWellFormed t ≡ true → unplugOf t x ≡ verdictOf (straight (stateOf t) x)
+  pub malformed : trackerWellFormed t ≡ false → unplugOf t x ≡ verdictOf (fault 1 0)

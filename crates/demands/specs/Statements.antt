@@ -1,5 +1,5 @@
--- The demands' sentences on refused calls and on changes that name other boxes, as statements about trackers; proofs/Theorems.antt proves
--- them. Assumes nothing.
+-- The demands' sentences on refused calls and on changes that name other boxes, as statements about trackers, and that two entries give one answer;
+-- proofs/Theorems.antt proves them. Assumes nothing.
 use Prim.Native.Nat.{ℕ, _+_, _^_, _≤_, _<_}
 use mathlib.Core.Path.{_≡_}
 use mathlib.Core.Bool.{Bool, true, false}
@@ -22,12 +22,13 @@ use Rattle.tracker.specs.declared.Configuration.{Configuration}
 use Rattle.tracker.specs.declared.Outcome.{Outcome}
 use Rattle.tracker.specs.declared.Tracker.{Tracker}
 use Rattle.tracker.specs.declared.Verdict.{Verdict}
-use Rattle.changer.specs.Calls.{enterAnswer, leaveAnswer, simpleAnswer}
+use Rattle.changer.specs.Calls.{enterAnswer, leaveAnswer, simpleAnswer, unplugOf}
 use Rattle.changer.specs.declared.Answer.{Answer}
 use Rattle.restore.specs.Restore.{appliedTo, restoreOf, stepByStepOf, stepsOf, tooLong, wholeOf}
 use Rattle.listing.specs.Listing.{listing, replayAnswer, replayLeaves}
-use Rattle.calls.specs.Layout.{stateAt, word}
-use Rattle.calls.specs.Call.{callAnswer, callLeaves, replyTo}
+use Rattle.calls.specs.Layout.{at, stateAt, word}
+use Rattle.calls.specs.Call.{callAnswer, callLeaves, idsIn, kindsIn, replyTo}
+use Rattle.calls.specs.Unplugs.{stateIn, unplugAnswer, unplugLeaves}
 use Rattle.demands.specs.Sequences.{boxIn}
 use Rattle.demands.specs.Demands.{AnswerUntouched, StateUntouched}
 
@@ -93,3 +94,18 @@ pub record RefusedUntouched (t : Tracker) : Type 0 where
   -- of the request, an empty log and 0
   pub no-call : (request reply : List ℕ) → eqb (callAnswer request (length reply)) 0 ≡ false → callLeaves request reply ≡ reply
   pub call : (request : List ℕ) → ltb (word request 0) 8 ≡ true → eqb (replyTo request .number) 0 ≡ false → (replyTo request .tracker ≡ stateAt request 1) × (replyTo request .log ≡ changeLogOf []) × (replyTo request .idle ≡ 0)
+  -- dimecandle_unplug: a state that is refused as such leaves the lent verdict as it was
+  pub no-unplug : (state verdict : List ℕ) (x : ℕ) → eqb (unplugAnswer state (length verdict)) 0 ≡ false → unplugLeaves state x verdict ≡ verdict
+
+-- ** Two entries, one answer
+
+-- Document 02, d), through the entries: the request's STATE has these words, its call is `simple` and its LIST the removal of x alone.
+pub record AsksSimple (request state : List ℕ) (x : ℕ) : Type 0 where
+  pub words : (k : ℕ) → k < 967 → word request (1 + k) ≡ at state k
+  pub call : word request 0 ≡ 2
+  pub ids : idsIn request ≡ x ∷ []
+  pub kinds : kindsIn request ≡ 1 ∷ []
+
+-- then the reply's number and id are the verdict's
+abbrev pub OneAnswer : List ℕ → List ℕ → ℕ → Type 0
+OneAnswer request state x = (replyTo request .number ≡ unplugOf (stateIn state) x .number) × (replyTo request .id ≡ unplugOf (stateIn state) x .id)
