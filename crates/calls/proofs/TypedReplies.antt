@@ -8,7 +8,6 @@ use native.Mathlib.Omega.{arith}
 use borrow.Author.Tests.{not-false}
 use lib.Dec.{eqb}
 use lib.ListN.{length, take, getD, length-take}
-use Rattle.rules.specs.State as rules
 use Rattle.rules.specs.State.{Conf, Entry, State, confFormed, formed, ids, logFormed}
 use Rattle.rules.specs.Answers as answers
 use Rattle.rules.specs.Answers.{Verdict, _▸_, fault, ok, refuse, refused, settle}

@@ -10,7 +10,7 @@ use lib.ListN.{length, take, drop, set}
 use Rattle.rules.specs.Answers as rules
 use Rattle.rules.specs.Answers.{refuse, _▸_}
 use Rattle.rules.specs.Check.{joint}
-use Rattle.rules.specs.Ids.{above, ascending, isEmpty}
+use Rattle.rules.specs.Ids.{above, ascending}
 use Rattle.rules.specs.Unplug.{another, voterLeft}
 use Rattle.rules.proofs.Sets.{and-left, and-right}
 use Rattle.idset.specs.Set.{held}
@@ -21,9 +21,9 @@ use Rattle.tracker.specs.Form.{trackerWellFormed}
 use Rattle.tracker.specs.declared.Tracker.{Tracker}
 use Rattle.tracker.specs.declared.Verdict.{Verdict}
 use Rattle.tracker.proofs.Bridge.{conf-sets, tracker-parts}
-use Rattle.invariants.proofs.Faults.{Numbered, numbered-refuse, numbered-then, then-stops, then-goes}
+use Rattle.invariants.proofs.Faults.{then-stops, then-goes}
 use Rattle.invariants.proofs.Parts.{check-numbered}
-use Rattle.changer.specs.Before.{mayUnplug, ownCheck}
+use Rattle.changer.specs.Before.{ownCheck}
 use Rattle.changer.specs.Calls.{unplugOf}
 use Rattle.changer.proofs.Unplug.{unplug-told}
 use Rattle.calls.specs.Layout.{at, withinBy, wordsBy}

@@ -12,8 +12,7 @@ use Rattle.rules.specs.Calls.{simple}
 use Rattle.rules.specs.Idle.{simpleIdles}
 use Rattle.rules.specs.Unplug.{straight, unplug, verdictIn, voterLeft}
 use Rattle.rules.proofs.Theorems.{unplug-is-told}
-use Rattle.idset.specs.Set.{held}
-use Rattle.tracker.specs.Bridge.{confOf, stateOf}
+use Rattle.tracker.specs.Bridge.{stateOf}
 use Rattle.tracker.specs.Apply.{verdictOf}
 use Rattle.tracker.specs.Form.{trackerWellFormed}
 use Rattle.tracker.specs.declared.Configuration.{Configuration}

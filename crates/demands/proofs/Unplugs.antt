@@ -1,27 +1,23 @@
 -- Can this box be unplugged?: document 02, d), of every tracker, and through both entries. Assumes nothing.
 use Prim.Native.Nat.{ℕ}
 use mathlib.Core.Path.{_≡_, refl, ap, sym, _∙_}
-use mathlib.Core.Bool.{true, false, _&&_}
-use mathlib.Core.List.{List, [], _∷_}
+use mathlib.Core.Bool.{false}
+use mathlib.Core.List.{List}
 use native.Mathlib.Nat.{zero-add}
 use lib.Dec.{eqb}
 use lib.ListN.{length}
-use Rattle.rules.specs.Answers.{fault}
-use Rattle.rules.specs.Calls.{simple}
 use Rattle.rules.specs.Check.{inOrder}
-use Rattle.rules.specs.Unplug.{quick, straight, unplug}
 use Rattle.rules.proofs.Sets.{and-left, and-right}
 use Rattle.rules.proofs.Theorems.{unplug-is-quick, unplug-is-told}
 use Rattle.tracker.specs.Apply.{verdictOf}
 use Rattle.tracker.specs.Bridge.{stateOf}
 use Rattle.tracker.specs.Form.{trackerWellFormed}
 use Rattle.tracker.specs.declared.Tracker.{Tracker}
-use Rattle.tracker.specs.declared.Verdict.{Verdict}
 use Rattle.invariants.specs.Check.{inOrderOf}
-use Rattle.changer.specs.Calls.{simpleAnswer, unplugOf}
+use Rattle.changer.specs.Calls.{unplugOf}
 use Rattle.changer.proofs.Unplug.{unplug-ill, unplug-rules}
 use Rattle.calls.specs.Call.{replyTo}
-use Rattle.calls.specs.Layout.{at, stateAt, word}
+use Rattle.calls.specs.Layout.{at, stateAt}
 use Rattle.calls.specs.Unplugs.{stateIn, unplugAnswer, unplugLeaves}
 use Rattle.calls.proofs.SameState.{state-alike}
 use Rattle.demands.specs.Demands.{Unplugged}

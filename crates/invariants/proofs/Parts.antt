@@ -3,7 +3,6 @@ use Prim.Native.Nat.{ℕ}
 use mathlib.Core.Path.{_≡_, refl, _∙_}
 use mathlib.Core.Bool.{Bool, true, false, _&&_, not}
 use mathlib.Core.List.{List}
-use borrow.Author.Tests.{not-true, not-false}
 use Rattle.rules.specs.Answers.{refuse, _▸_}
 use Rattle.rules.specs.Check.{joint}
 use Rattle.rules.specs.Ids.{isEmpty}

@@ -1,6 +1,6 @@
 -- Document 02, d), tried on states. Above each line stands what it rules out: a shortcut that would give another answer there. Assumes nothing.
 use mathlib.Core.Path.{_≡_, refl}
-use mathlib.Core.Bool.{true, false}
+use mathlib.Core.Bool.{false}
 use mathlib.Core.List.{[], _∷_}
 use Rattle.rules.specs.Ids.{apart, memb, above, ascending, insertId, insertAll, removeId, minus, sameIds}
 use Rattle.rules.specs.State.{State, confFormed, formed, ids}
