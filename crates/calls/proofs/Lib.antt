@@ -4,11 +4,8 @@ pub mod WriteWords
 pub mod WriteLengths
 pub mod ReadNumbers
 pub mod ReadFilled
-pub mod ReadWithin
 pub mod WriteCalls
-pub mod WordBlocks
-pub mod Unplugged
-pub mod SameState
+pub mod UnplugEntry
 pub mod RoundWords
 pub mod RoundSmall
 pub mod RoundSets

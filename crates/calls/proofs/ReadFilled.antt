@@ -8,7 +8,8 @@ use lib.ListN.{length, take, set, length-set}
 use lib.Seq.{take-all, take-suc-set}
 use Rattle.progress.specs.declared.Progress.{Progress}
 use Rattle.tracker.specs.declared.MapChange.{MapChange}
-use Rattle.calls.specs.Layout.{word, words, wordsBy, recordAt, recordsAt, recordsBy, kindNamed, entriesAt, kindsAt}
+use Rattle.unplug.specs.Words.{wordsBy, recordsBy}
+use Rattle.calls.specs.Layout.{word, words, recordAt, recordsAt, kindNamed, entriesAt, kindsAt}
 
 unfoldable pub spaced : {A : Type 0} → ℕ → (ℕ → A) → ℕ → ℕ → List A
 spaced zero f step k = []

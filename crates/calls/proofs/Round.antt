@@ -11,7 +11,8 @@ use Rattle.tracker.specs.declared.ChangeLog.{ChangeLog}
 use Rattle.tracker.specs.declared.Tracker.{Tracker}
 use Rattle.tracker.specs.declared.ConfState.{ConfState}
 use Rattle.calls.specs.declared.Reply.{Reply}
-use Rattle.calls.specs.Layout.{word, flag, setAt, confAt, stateAt, logAt, confStateAt}
+use Rattle.unplug.specs.Words.{flag}
+use Rattle.calls.specs.Layout.{word, setAt, confAt, stateAt, logAt, confStateAt}
 use Rattle.calls.specs.Reply.{allBytes, setWords, confWords, stateWords, logWords, confStateWords}
 use Rattle.calls.specs.Call.{replyTo, replyWords, callAnswer, callLeaves}
 use Rattle.calls.proofs.Typed.{TypedSet, TypedConf, TypedState, TypedLog, TypedConfState, TypedReply}

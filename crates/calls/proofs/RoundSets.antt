@@ -9,7 +9,8 @@ use Rattle.idset.specs.declared.IdSet.{IdSet}
 use Rattle.tracker.specs.declared.Configuration.{Configuration}
 use Rattle.tracker.specs.declared.IdList.{IdList}
 use Rattle.tracker.specs.declared.ConfState.{ConfState}
-use Rattle.calls.specs.Layout.{word, words, flag, setAt, listAt, confAt, confStateAt}
+use Rattle.unplug.specs.Words.{flag}
+use Rattle.calls.specs.Layout.{word, words, setAt, listAt, confAt, confStateAt}
 use Rattle.calls.specs.Reply.{flagWord, setWords, listWords, confWords, confStateWords}
 use Rattle.calls.proofs.Typed.{TypedSet, TypedList, TypedConf, TypedConfState}
 use Rattle.calls.proofs.WriteLengths.{set-length, list-length}

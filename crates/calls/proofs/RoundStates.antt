@@ -12,7 +12,8 @@ use Rattle.tracker.specs.declared.MapChangeType.the-variants.{Add, Remove}
 use Rattle.tracker.specs.declared.MapChange.{MapChange}
 use Rattle.tracker.specs.declared.ChangeLog.{ChangeLog}
 use Rattle.tracker.specs.declared.Tracker.{Tracker}
-use Rattle.calls.specs.Layout.{word, flag, setAt, confAt, stateNamed, recordAt, recordsAt, recordsBy, stateAt, kindNamed, entriesAt, logAt}
+use Rattle.unplug.specs.Words.{flag, stateNamed, recordsBy}
+use Rattle.calls.specs.Layout.{word, setAt, confAt, recordAt, recordsAt, stateAt, kindNamed, entriesAt, logAt}
 use Rattle.calls.specs.Reply.{setWords, confWords, stateWord, recordWords, recordsWords, stateWords, kindWord, entriesWords, logWords}
 use Rattle.calls.proofs.Typed.{TypedState, TypedLog}
 use Rattle.calls.proofs.WriteLengths.{set-length, conf-length, record-length, records-length, entries-length}

@@ -6,7 +6,8 @@ use native.Mathlib.Nat.{div-lt-iff-lt-mul, pow-suc, add-zero}
 use native.Mathlib.Omega.{arith}
 use lib.ListN.{length, length-append, getD, List·getD-append}
 use lib.Seq.{getD-append-add, getD-at}
-use Rattle.calls.specs.Layout.{number, word, words, wordsBy}
+use Rattle.unplug.specs.Words.{wordsBy}
+use Rattle.calls.specs.Layout.{number, word, words}
 use Rattle.calls.specs.Reply.{bytes, wordBytes, allBytes}
 use Rattle.calls.proofs.Typed.{U64, Each, none, more}
 use Rattle.calls.proofs.WriteLengths.{word-length}

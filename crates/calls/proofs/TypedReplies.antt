@@ -37,7 +37,8 @@ use Rattle.changer.proofs.Pending.{pending-set}
 use Rattle.restore.specs.Restore.{restoreOf, restoring, stepByStepOf, tooLong}
 use Rattle.restore.proofs.Applied.{Fits, enter-fits, leave-fits, simple-fits}
 use Rattle.restore.proofs.Restored.{steps-left, whole-left}
-use Rattle.calls.specs.Layout.{confAt, confStateAt, entriesAt, flag, listAt, logAt, number, recordAt, recordsAt, recordsBy, setAt, stateAt, word, words, wordsBy}
+use Rattle.unplug.specs.Words.{flag, recordsBy, wordsBy}
+use Rattle.calls.specs.Layout.{confAt, confStateAt, entriesAt, listAt, logAt, number, recordAt, recordsAt, setAt, stateAt, word, words}
 use Rattle.calls.specs.Call.{callAnswer, callLeaves, fromAnswer, fromOutcome, fromVerdict, fromWritten, kindsIn, noLists, noLog, reply, replyTo}
 use Rattle.calls.proofs.Typed.{U64, Each, none, more, ArrayOf, TypedSet, TypedList, TypedConf, TypedRecord, TypedState, TypedEntry, TypedLog, TypedConfState, TypedReply}
 use Rattle.calls.proofs.TypedRules.{Answered, U64Outcome, Said, answered, applied-u64, checked-said, declined, either, enter-u64, faulted, leave-u64, passed, restore-u64, steps-restored-u64, simple-u64}

@@ -19,7 +19,8 @@ use Rattle.restore.specs.Restore.{restoreOf, stepByStepOf, wholeOf}
 use Rattle.restore.proofs.Restored.{made-whole}
 use Rattle.text.specs.Put.{Put, last}
 use Rattle.text.proofs.Laws.{put-whole}
-use Rattle.calls.specs.Layout.{word, words, wordsBy, flag, confAt, stateAt, logAt, confStateAt, kindsAt, changeListAt, holds}
+use Rattle.unplug.specs.Words.{wordsBy, flag}
+use Rattle.calls.specs.Layout.{word, words, confAt, stateAt, logAt, confStateAt, kindsAt, changeListAt, holds}
 use Rattle.calls.specs.Reply.{allBytes}
 use Rattle.calls.specs.Call.{reply, noLog, noLists, fromVerdict, fromAnswer, fromOutcome, fromWritten, idsIn, kindsIn, askIn, restoredIn, replyTo, replyWords, callAnswer, callLeaves}
 use Rattle.calls.specs.declared.Reply.{Reply}

@@ -19,7 +19,8 @@ use Rattle.invariants.specs.Check.{checkOf, inOrderOf}
 use Rattle.changer.specs.declared.Answer.{Answer}
 use Rattle.changer.specs.Calls.{simpleAnswer, enterAnswer, leaveAnswer}
 use Rattle.restore.specs.Restore.{restoreOf, stepByStepOf}
-use Rattle.calls.specs.Layout.{word, flag, confAt, stateAt, logAt, confStateAt, changeListAt, holds}
+use Rattle.unplug.specs.Words.{flag}
+use Rattle.calls.specs.Layout.{word, confAt, stateAt, logAt, confStateAt, changeListAt, holds}
 use Rattle.calls.specs.Reply.{allBytes, flagWord, stateWords, logWords, confStateWords}
 use Rattle.calls.specs.declared.Reply.{Reply}
 

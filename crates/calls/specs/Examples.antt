@@ -7,7 +7,8 @@ use Rattle.idset.specs.declared.IdSet.{IdSet}
 use Rattle.tracker.specs.declared.IdList.{IdList}
 use Rattle.tracker.specs.declared.MapChangeType.the-variants.{Remove}
 use Rattle.tracker.specs.declared.Tracker.{Tracker}
-use Rattle.calls.specs.Layout.{number, word, words, wordsBy, within, withinBy}
+use Rattle.unplug.specs.Words.{wordsBy, withinBy}
+use Rattle.calls.specs.Layout.{number, word, words, within}
 use Rattle.calls.specs.Reply.{bytes, wordBytes, allBytes, confWords, recordsWords, stateWords, entriesWords, logWords, confStateWords}
 use Rattle.calls.specs.Call.{callAnswer, callLeaves, reply, replyWords}
 use Rattle.calls.specs.Unplugs.{unplugAnswer, unplugLeaves}

@@ -1,20 +1,11 @@
--- Can this box be unplugged?: document 02, d), asked of a STATE in words (docs/EMBEDDING.md). Assumes nothing.
+-- Whether a box can be unplugged, as the entry answers it: docs/EMBEDDING.md. Assumes nothing.
 use Prim.Native.Nat.{ℕ}
-use mathlib.Core.Bool.{Bool, not, cond}
+use mathlib.Core.Bool.{not, cond}
 use mathlib.Core.List.{List, _∷_}
 use lib.Dec.{eqb, ltb}
 use lib.ListN.{length, drop}
-use Rattle.tracker.specs.declared.Tracker.{Tracker}
 use Rattle.changer.specs.Calls.{unplugOf}
-use Rattle.calls.specs.Layout.{at, stateBy, stateHoldsBy}
-
--- the STATE that the words are
-abbrev pub stateIn : List ℕ → Tracker
-stateIn ws = stateBy (at ws) 0
-
--- a word that no field can hold
-unfoldable pub stateHoldsIn : List ℕ → Bool
-stateHoldsIn ws = stateHoldsBy (at ws) 0
+use Rattle.unplug.specs.Unplugs.{stateHoldsIn, stateIn}
 
 -- 1: the state's length; 2: the verdict too short; 4: a word that no field can hold. The numbers are those of `callAnswer`.
 unfoldable pub unplugAnswer : List ℕ → ℕ → ℕ

@@ -1,5 +1,5 @@
-// One call on any state, in bytes: docs/EMBEDDING.md has the layout. This is how another language embeds the library, and how it is compared with
-// the Rust.
+// One call on any state, in bytes, and one question about a box, in words: docs/EMBEDDING.md has the layout. This is how another language embeds the
+// library, and how it is compared with the Rust.
 use changer::Answer;
 use tracker::ChangeLog;
 use tracker::ConfState;
@@ -12,10 +12,10 @@ ghost use Prim.Native.Nat.{min};
 ghost use lib.ListN.{length};
 ghost use Rattle.tracker.specs.ConfStates.{writtenOf};
 ghost use Rattle.calls.specs.Call.{fromVerdict, fromAnswer, fromOutcome, fromWritten, reply as replyOf, noLog, noLists, askIn, restoredIn, replyTo, callAnswer, callLeaves};
+ghost use Rattle.calls.specs.Unplugs.{unplugAnswer, unplugLeaves};
 
 pub mod read; // a request
 pub mod write; // a reply
-pub mod unplug; // can this box be unplugged?
 
 // What a call answers.
 pub struct Reply {
@@ -47,6 +47,27 @@ pub extern "C" fn dimecandle_call(request: &[u8], reply: &mut [u8]) -> u64
         return 4;
     }
     write::put_reply(reply, reply_to(request));
+    0
+}
+
+// Can this box be unplugged? The number and id of `simple` with the removal of `id` alone, of a STATE in words, at the front of `verdict`: 0. A state that has
+// not 967 words: 1; a verdict of less than two: 2; a word that no field can hold: 4; the verdict is then as it was.
+#[no_mangle]
+pub extern "C" fn dimecandle_unplug(state: &[u64], id: u64, verdict: &mut [u64]) -> u64
+    ensures { λ r. ⌜ (r ≡ unplugAnswer (now (state .entry)) (length (now (verdict .entry)))) × (now (verdict .exit) ≡ unplugLeaves (now (state .entry)) id (now (verdict .entry))) ⌝ }
+{
+    if state.len() != 967 {
+        return 1;
+    }
+    if verdict.len() < 2 {
+        return 2;
+    }
+    let told = unplug::unplug(state, id);
+    if told.returned != 0 {
+        return told.returned;
+    }
+    verdict[0] = told.number;
+    verdict[1] = told.id;
     0
 }
 

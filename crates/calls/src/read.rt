@@ -12,7 +12,8 @@ use tracker::Tracker;
 ghost use mathlib.Core.Path.{_≡_};
 ghost use Prim.Native.Nat.{_+_, _*_, _≤_};
 ghost use lib.ListN.{getD};
-ghost use Rattle.calls.specs.Layout.{number, word as wordAt, words as wordsAt, stateNamed, kindNamed, setAt, listAt, confAt, recordAt, recordsAt, stateAt, entriesAt, logAt, confStateAt, kindsAt, changeListAt, within, stateHolds, listHolds, holds as holdsIn};
+ghost use Rattle.unplug.specs.Words.{stateNamed};
+ghost use Rattle.calls.specs.Layout.{number, word as wordAt, words as wordsAt, kindNamed, setAt, listAt, confAt, recordAt, recordsAt, stateAt, entriesAt, logAt, confStateAt, kindsAt, changeListAt, within, stateHolds, listHolds, holds as holdsIn};
 
 // The LIST: ids and kinds, and how many of each.
 pub struct ChangeList {

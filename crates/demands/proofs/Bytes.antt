@@ -19,7 +19,8 @@ use Rattle.changer.specs.Calls.{enterAnswer, leaveAnswer, simpleAnswer}
 use Rattle.changer.specs.declared.Answer.{Answer}
 use Rattle.restore.specs.Restore.{restoreOf, stepByStepOf}
 use Rattle.listing.specs.Listing.{listing, replayAnswer, replayLeaves}
-use Rattle.calls.specs.Layout.{confAt, confStateAt, flag, logAt, stateAt, word}
+use Rattle.unplug.specs.Words.{flag}
+use Rattle.calls.specs.Layout.{confAt, confStateAt, logAt, stateAt, word}
 use Rattle.calls.specs.Call.{callAnswer, callLeaves, fromAnswer, fromOutcome, fromVerdict, fromWritten, idsIn, kindsIn, noLists, noLog, reply, replyTo, withConf}
 use Rattle.calls.specs.declared.Reply.{Reply}
 use Rattle.demands.specs.Demands.{AnswerUntouched, StateUntouched}

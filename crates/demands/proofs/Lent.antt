@@ -20,7 +20,7 @@ use Rattle.listing.proofs.line.«put_answer».Reads as listing-put-answer
 use Rattle.listing.specs.declared.Session.{Session}
 use Rattle.listing.specs.declared.Turned.{Turned}
 use Rattle.calls.proofs.«dimecandle_call».Reads as calls-call
-use Rattle.calls.proofs.unplug.«dimecandle_unplug».Reads as calls-unplug
+use Rattle.calls.proofs.«dimecandle_unplug».Reads as calls-unplug
 use Rattle.calls.proofs.read.word.Reads as calls-word
 use Rattle.calls.proofs.read.holds.Reads as calls-holds
 use Rattle.calls.proofs.read.state.Reads as calls-state

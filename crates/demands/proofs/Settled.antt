@@ -1,4 +1,4 @@
--- Of each public contract of the crates up to restore, two results that it allows are equal: a line for each public function. `Learnt` is
+-- Of each public contract of the crates up to restore and unplug, two results that it allows are equal: a line for each public function. `Learnt` is
 -- Rattle's own reading of the `ensures` in src/, what a caller learns of arguments and result. Assumes nothing.
 use mathlib.Core.Path.{_≡_, _∙_, sym}
 use denote.Ref.{now}
@@ -59,6 +59,7 @@ use Rattle.restore.proofs.restore.Reads as restore-restore
 use Rattle.restore.proofs.«restore_step_by_step».Reads as restore-restore-step-by-step
 use Rattle.restore.proofs.whole.Reads as restore-whole
 use Rattle.restore.proofs.«apply_answer».Reads as restore-apply-answer
+use Rattle.unplug.proofs.unplug.Reads as unplug-unplug
 use Rattle.demands.proofs.Walked.{apply-conf-says, contains-says, view-says}
 
 -- P is a contract: it speaks of lifetimes, arguments, the result, and the parameters at exit. Of the same arguments it allows one result.
@@ -178,6 +179,7 @@ pub record Calls : Type 0 where
   pub whole : Settles restore-whole.Learnt
   pub restore-step-by-step : Settles restore-restore-step-by-step.Learnt
   pub apply-answer : Settles restore-apply-answer.Learnt
+  pub unplug : Settles unplug-unplug.Learnt
 
 pub calls : Calls
 calls = search equation

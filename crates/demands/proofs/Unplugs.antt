@@ -17,9 +17,11 @@ use Rattle.invariants.specs.Check.{inOrderOf}
 use Rattle.changer.specs.Calls.{unplugOf}
 use Rattle.changer.proofs.Unplug.{unplug-ill, unplug-rules}
 use Rattle.calls.specs.Call.{replyTo}
-use Rattle.calls.specs.Layout.{at, stateAt}
-use Rattle.calls.specs.Unplugs.{stateIn, unplugAnswer, unplugLeaves}
-use Rattle.calls.proofs.SameState.{state-alike}
+use Rattle.unplug.specs.Words.{at}
+use Rattle.calls.specs.Layout.{stateAt}
+use Rattle.calls.specs.Unplugs.{unplugAnswer, unplugLeaves}
+use Rattle.unplug.specs.Unplugs.{stateIn}
+use Rattle.unplug.proofs.SameState.{state-alike}
 use Rattle.demands.specs.Demands.{Unplugged}
 use Rattle.demands.specs.Statements.{AsksSimple, OneAnswer}
 

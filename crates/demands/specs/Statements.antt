@@ -26,9 +26,11 @@ use Rattle.changer.specs.Calls.{enterAnswer, leaveAnswer, simpleAnswer, unplugO
 use Rattle.changer.specs.declared.Answer.{Answer}
 use Rattle.restore.specs.Restore.{appliedTo, restoreOf, stepByStepOf, stepsOf, tooLong, wholeOf}
 use Rattle.listing.specs.Listing.{listing, replayAnswer, replayLeaves}
-use Rattle.calls.specs.Layout.{at, stateAt, word}
+use Rattle.unplug.specs.Words.{at}
+use Rattle.unplug.specs.Unplugs.{stateIn}
+use Rattle.calls.specs.Layout.{stateAt, word}
 use Rattle.calls.specs.Call.{callAnswer, callLeaves, idsIn, kindsIn, replyTo}
-use Rattle.calls.specs.Unplugs.{stateIn, unplugAnswer, unplugLeaves}
+use Rattle.calls.specs.Unplugs.{unplugAnswer, unplugLeaves}
 use Rattle.demands.specs.Sequences.{boxIn}
 use Rattle.demands.specs.Demands.{AnswerUntouched, StateUntouched}
 

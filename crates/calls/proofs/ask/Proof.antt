@@ -3,7 +3,7 @@ use mathlib.Core.Path.{_∙_}
 use native.Mathlib.Omega.{arith}
 use borrow.Author.Needs.{needs}
 use Rattle.changer.specs.Calls.{simpleAnswer, enterAnswer}
-use Rattle.calls.specs.Layout.{flag}
+use Rattle.unplug.specs.Words.{flag}
 use Rattle.calls.proofs.WriteCalls.{ids-fit, kinds-fit, ids-taken, kinds-taken, ids-in, kinds-in, ask-leave, ask-simple, ask-enter}
 use Rattle.calls.proofs.ask.Statement.{statement}
 use Rattle.calls.proofs.ask.Tie as tie

@@ -1,7 +1,7 @@
 -- `calls::dimecandle_call` meets its contract. Assumes nothing.
 use native.Mathlib.Omega.{arith}
 use borrow.Author.Needs.{needs}
-use Rattle.calls.proofs.ReadWithin.{test-no, test-yes}
+use Rattle.unplug.proofs.Within.{test-no, test-yes}
 use Rattle.calls.proofs.TypedRows.{reply-typed}
 use Rattle.calls.proofs.WriteCalls.{call-length, call-room, call-unknown, call-held, call-done}
 use Rattle.calls.proofs.dimecandle_call.Statement.{statement}

@@ -2,7 +2,7 @@
 use native.Mathlib.Omega.{arith}
 use borrow.Author.Needs.{needs}
 use Rattle.calls.specs.Layout.{word}
-use Rattle.calls.proofs.ReadWithin.{Asking, ask-start, ask-room, ask-stop, ask-next, ask-end}
+use Rattle.unplug.proofs.Within.{Asking, ask-start, ask-room, ask-stop, ask-next, ask-end}
 use Rattle.calls.proofs.read.at_most.Statement.{statement}
 use Rattle.calls.proofs.read.at_most.Tie as tie
 

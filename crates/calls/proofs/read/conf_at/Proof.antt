@@ -1,5 +1,5 @@
 -- `calls::read::conf_at` meets its contract: four sets and the flag. Assumes nothing.
-use Rattle.calls.specs.Layout.{flag}
+use Rattle.unplug.specs.Words.{flag}
 use borrow.Author.Needs.{needs}
 use Rattle.calls.proofs.read.conf_at.Statement.{statement}
 use Rattle.calls.proofs.read.conf_at.Tie as tie

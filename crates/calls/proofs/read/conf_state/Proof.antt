@@ -1,5 +1,5 @@
 -- `calls::read::conf_state` meets its contract: four lists and the flag. Assumes nothing.
-use Rattle.calls.specs.Layout.{flag}
+use Rattle.unplug.specs.Words.{flag}
 use borrow.Author.Needs.{needs}
 use Rattle.calls.proofs.read.conf_state.Statement.{statement}
 use Rattle.calls.proofs.read.conf_state.Tie as tie

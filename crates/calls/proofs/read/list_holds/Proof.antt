@@ -4,7 +4,7 @@ use mathlib.Core.Path.{_≡_}
 use mathlib.Core.Bool.{true}
 use borrow.Author.Needs.{needs}
 use Rattle.calls.specs.Layout.{within}
-use Rattle.calls.proofs.ReadWithin.{test-no, test-yes}
+use Rattle.unplug.proofs.Within.{test-no, test-yes}
 use Rattle.calls.proofs.read.list_holds.Statement.{statement}
 use Rattle.calls.proofs.read.list_holds.Tie as tie
 

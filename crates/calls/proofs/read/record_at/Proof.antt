@@ -1,7 +1,7 @@
 -- `calls::read::record_at` meets its contract: each field is its word. Assumes nothing.
 use Prim.Native.Nat.{ℕ}
 use mathlib.Core.Path.{ap, _∙_}
-use Rattle.calls.specs.Layout.{flag, stateNamed}
+use Rattle.unplug.specs.Words.{flag, stateNamed}
 use borrow.Author.Needs.{needs}
 use Rattle.calls.proofs.read.record_at.Statement.{statement}
 use Rattle.calls.proofs.read.record_at.Tie as tie

@@ -1,0 +1,4 @@
+pub mod Within
+pub mod WordBlocks
+pub mod Unplugged
+pub mod SameState

@@ -1,0 +1,3 @@
+pub mod Words
+pub mod Unplugs
+pub mod Examples
