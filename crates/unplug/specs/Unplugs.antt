@@ -13,7 +13,7 @@ use Rattle.unplug.specs.declared.Told.{Told}
 abbrev pub stateIn : List ℕ → Tracker
 stateIn ws = stateBy (at ws) 0
 
--- a word that no field can hold
+-- every word of it can be held by its field
 unfoldable pub stateHoldsIn : List ℕ → Bool
 stateHoldsIn ws = stateHoldsBy (at ws) 0
 
