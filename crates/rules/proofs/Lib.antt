@@ -6,6 +6,7 @@ pub mod Boxes
 pub mod Changes
 pub mod Check
 pub mod Means
+pub mod Near
 pub mod Steps
 pub mod Order
 pub mod Applied

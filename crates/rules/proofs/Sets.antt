@@ -241,24 +241,62 @@ unfolding insertAll
 ascending-all [] ys a = a
 ascending-all (x ∷ xs) ys a = ascending-insert x (insertAll xs ys) (ascending-all xs ys a)
 
-pub memb-minus : (y : ℕ) (xs ys : List ℕ) → memb y (minus xs ys) ≡ memb y xs && not (memb y ys)
-unfolding memb minus
-memb-minus y [] ys = refl
-memb-minus y (x ∷ xs) ys = go (memb x ys) refl (eqb x y) refl (memb-minus y xs ys)
-  where
-    go : (b : Bool) → memb x ys ≡ b → (e : Bool) → eqb x y ≡ e → memb y (minus xs ys) ≡ memb y xs && not (memb y ys)
-        → memb y (cond b (minus xs ys) (x ∷ minus xs ys)) ≡ (e || memb y xs) && not (memb y ys)
-    go true m true q ih = ih ∙ ap (λ (c : Bool). memb y xs && not c) here ∙ last (memb y xs) ∙ sym (ap not here)
-      where
-        here : memb y ys ≡ true
-        here = ap (λ (z : ℕ). memb z ys) (sym (eqb-true x y q)) ∙ m
+-- those of xs of which p says yes
+unfoldable pub keep : (ℕ → Bool) → List ℕ → List ℕ
+keep p [] = []
+keep p (x ∷ xs) = cond (p x) (x ∷ keep p xs) (keep p xs)
 
-        last : (c : Bool) → c && false ≡ false
-        last true = refl
-        last false = refl
-    go true m false q ih = ih
-    go false m true q ih = rw q (sym (ap (λ (z : ℕ). not (memb z ys)) (sym (eqb-true x y q)) ∙ ap not m))
-    go false m false q ih = rw q ih
+pub memb-keep : (y : ℕ) (p : ℕ → Bool) (xs : List ℕ) → memb y (keep p xs) ≡ memb y xs && p y
+unfolding memb keep
+memb-keep y p [] = refl
+memb-keep y p (x ∷ xs) = go (p x) refl (eqb x y) refl (memb-keep y p xs)
+  where
+    last : (c : Bool) → c && false ≡ false
+    last true = refl
+    last false = refl
+
+    go : (b : Bool) → p x ≡ b → (e : Bool) → eqb x y ≡ e → memb y (keep p xs) ≡ memb y xs && p y
+        → memb y (cond b (x ∷ keep p xs) (keep p xs)) ≡ (e || memb y xs) && p y
+    go true m true q ih = rw q (sym m ∙ ap p (eqb-true x y q))
+    go true m false q ih = rw q ih
+    go false m true q ih =
+        let out : p y ≡ false = ap p (sym (eqb-true x y q)) ∙ m in
+        ih ∙ ap (λ (c : Bool). memb y xs && c) out ∙ last (memb y xs) ∙ sym out
+    go false m false q ih = ih
+
+above-keep : (p : ℕ → Bool) (q : ℕ) (xs : List ℕ) → above q xs ≡ true → above q (keep p xs) ≡ true
+unfolding above keep
+above-keep p q [] a = refl
+above-keep p q (x ∷ xs) a = go (p x) (above-keep p x xs (and-right (ltb q x) (above x xs) a))
+  where
+    go : (b : Bool) → above x (keep p xs) ≡ true → above q (cond b (x ∷ keep p xs) (keep p xs)) ≡ true
+    go true ih = rw (and-left (ltb q x) (above x xs) a, ih)
+    go false ih = above-less q x (keep p xs) ih (omega (arith, ltb-true q x (and-left (ltb q x) (above x xs) a)))
+
+pub ascending-keep : (p : ℕ → Bool) (xs : List ℕ) → ascending xs ≡ true → ascending (keep p xs) ≡ true
+unfolding ascending keep
+ascending-keep p [] a = refl
+ascending-keep p (x ∷ xs) a = go (p x) (ascending-keep p xs (rising-tail x xs a))
+  where
+    go : (b : Bool) → ascending (keep p xs) ≡ true → ascending (cond b (x ∷ keep p xs) (keep p xs)) ≡ true
+    go true ih = above-keep p x xs a
+    go false ih = ih
+
+pub minus-keep : (xs ys : List ℕ) → minus xs ys ≡ keep (λ x. not (memb x ys)) xs
+unfolding minus keep
+minus-keep [] ys = refl
+minus-keep (x ∷ xs) ys = go (memb x ys) (minus-keep xs ys)
+  where
+    go : (b : Bool) → minus xs ys ≡ keep (λ x. not (memb x ys)) xs
+        → cond b (minus xs ys) (x ∷ minus xs ys) ≡ cond (not b) (x ∷ keep (λ x. not (memb x ys)) xs) (keep (λ x. not (memb x ys)) xs)
+    go true ih = ih
+    go false ih = ap (λ (l : List ℕ). x ∷ l) ih
+
+pub memb-minus : (y : ℕ) (xs ys : List ℕ) → memb y (minus xs ys) ≡ memb y xs && not (memb y ys)
+memb-minus y xs ys = ap (memb y) (minus-keep xs ys) ∙ memb-keep y (λ x. not (memb x ys)) xs
+
+pub ascending-minus : (xs ys : List ℕ) → ascending xs ≡ true → ascending (minus xs ys) ≡ true
+ascending-minus xs ys a = ap ascending (minus-keep xs ys) ∙ ascending-keep (λ x. not (memb x ys)) xs a
 
 -- nothing is in an empty list only
 pub empty-none : (xs : List ℕ) → isEmpty xs ≡ true → (x : ℕ) → memb x xs ≡ false

@@ -1,15 +1,15 @@
 -- Steps of one change each, as restore takes them. Assumes nothing.
 use Prim.Native.Nat.{ℕ, _+_, _≤_}
 use mathlib.Core.Path.{_≡_, refl, ap, _∙_, sym}
-use mathlib.Core.Bool.{Bool, true, false, _&&_, _||_, not, cond, true≢false, false≢true}
+use mathlib.Core.Bool.{Bool, true, false, _&&_, not, cond, false≢true}
 use mathlib.Core.List.{List, [], _∷_, _++_}
 use native.Mathlib.Omega.{arith}
-use borrow.Author.Tests.{ltb-true, eq-eqb, eqb-true, lt-leb}
-use lib.Dec.{eqb, ltb, leb}
+use borrow.Author.Tests.{eq-eqb}
+use lib.Dec.{eqb, leb}
 use lib.ListN.{length}
 use Rattle.progress.specs.Record.{freshRecord}
 use Rattle.progress.specs.declared.Progress.{Progress}
-use Rattle.rules.specs.Ids.{above, ascending, isEmpty, memb, minus}
+use Rattle.rules.specs.Ids.{ascending, isEmpty, memb}
 use Rattle.rules.specs.State.{Change, Conf, Kind, Peer, State, addLearner, addNode, ids}
 use Rattle.rules.specs.Answers.{Verdict, accepted, fault, ok}
 use Rattle.rules.specs.Check.{joint}
@@ -19,80 +19,21 @@ use Rattle.rules.specs.Calls.{difference, simpleOf, start}
 use Rattle.rules.specs.Apply.{applied, enrol}
 use Rattle.rules.specs.Restore.{Step, all, ask, attempt, goOn, oneByOne, run, simpleStep}
 use Rattle.rules.specs.Boxes.{Box, boxOf, changeBox}
-use Rattle.rules.proofs.Sets.{above-less, and-left, and-right, length-part, memb-head, memb-minus, or-left, or-right, or-true, rising-tail}
+use Rattle.rules.proofs.Sets.{memb-head, or-left, or-right, or-true}
 use Rattle.rules.proofs.Plain.{changesBox}
 use Rattle.rules.proofs.Boxes.{Sound, boxAt}
 use Rattle.rules.proofs.Changes.{After, Fine, changes-done, named, now}
 use Rattle.rules.proofs.Steps.{Checked, Ordered, Stepped, ordered-checked}
 use Rattle.rules.proofs.Order.{apply-ok, apply-ordered, asked}
 use Rattle.rules.proofs.Accept.{Within, changes-fit, fine-start, simple-accepted}
+use Rattle.rules.proofs.Near.{near}
 
--- ** A set that differs in one id at most
-
-pub above-minus : (p : ℕ) (xs ys : List ℕ) → above p xs ≡ true → above p (minus xs ys) ≡ true
-unfolding above minus
-above-minus p [] ys a = refl
-above-minus p (x ∷ xs) ys a = go (memb x ys) (above-minus x xs ys (and-right (ltb p x) (above x xs) a))
-  where
-    go : (b : Bool) → above x (minus xs ys) ≡ true → above p (cond b (minus xs ys) (x ∷ minus xs ys)) ≡ true
-    go true ih = above-less p x (minus xs ys) ih (omega (arith, ltb-true p x (and-left (ltb p x) (above x xs) a)))
-    go false ih = rw (and-left (ltb p x) (above x xs) a, ih)
-
-pub ascending-minus : (xs ys : List ℕ) → ascending xs ≡ true → ascending (minus xs ys) ≡ true
-unfolding ascending minus
-ascending-minus [] ys a = refl
-ascending-minus (x ∷ xs) ys a = go (memb x ys) (ascending-minus xs ys (rising-tail x xs a))
-  where
-    go : (b : Bool) → ascending (minus xs ys) ≡ true → ascending (cond b (minus xs ys) (x ∷ minus xs ys)) ≡ true
-    go true ih = ih
-    go false ih = above-minus x xs ys a
-
-module _ (x : ℕ) (xs ys : List ℕ) (a : ascending xs ≡ true) (b : ascending ys ≡ true) (h : (y : ℕ) → eqb x y ≡ false → memb y xs ≡ memb y ys) where
-  only : memb x xs && not (memb x ys) ≡ false → length (minus xs ys) ≤ 0
-  unfolding ascending memb
-  only m = length-part (minus xs ys) [] (ascending-minus xs ys a) refl (λ y k. absurd (true≢false (sym k ∙ memb-minus y xs ys ∙ go y (eqb x y) refl)))
-    where
-      last : (b : Bool) → b && not b ≡ false
-      last true = refl
-      last false = refl
-
-      go : (y : ℕ) (e : Bool) → eqb x y ≡ e → memb y xs && not (memb y ys) ≡ false
-      go y true e = rw (← eqb-true x y e) m
-      go y false e = rw (h y e) (last (memb y ys))
-
-  one : length (minus xs ys) ≤ 1
-  unfolding ascending memb above
-  one = length-part (minus xs ys) (x ∷ []) (ascending-minus xs ys a) refl (λ y k. go y (eqb x y) refl (sym (memb-minus y xs ys) ∙ k))
-    where
-      last : (b : Bool) → b && not b ≡ false
-      last true = refl
-      last false = refl
-
-      go : (y : ℕ) (e : Bool) → eqb x y ≡ e → memb y xs && not (memb y ys) ≡ true → e || false ≡ true
-      go y true e k = refl
-      go y false e k = absurd (true≢false (sym k ∙ ap (λ (c : Bool). c && not (memb y ys)) (h y e) ∙ last (memb y ys)))
-
--- at most one id comes or goes
-pub near : (x : ℕ) (xs ys : List ℕ) → ascending xs ≡ true → ascending ys ≡ true → ((y : ℕ) → eqb x y ≡ false → memb y xs ≡ memb y ys) → leb 2 (difference xs ys) ≡ false
-near x xs ys a b h = go (memb x xs) refl
-  where
-    back : (y : ℕ) → eqb x y ≡ false → memb y ys ≡ memb y xs
-    back y e = sym (h y e)
-
-    end : (b : Bool) → b && false ≡ false
-    end true = refl
-    end false = refl
-
-    go : (b : Bool) → memb x xs ≡ b → leb 2 (length (minus xs ys) + length (minus ys xs)) ≡ false
-    go true m = lt-leb 2 (length (minus xs ys) + length (minus ys xs)) (omega (arith, one x xs ys a b h, only x ys xs b a back (rw m (end (memb x ys)))))
-    go false m = lt-leb 2 (length (minus xs ys) + length (minus ys xs)) (omega (arith, one x ys xs b a back, only x xs ys a b h (rw m)))
+-- ** Who is incoming after a change
 
 pub memb-some : (x : ℕ) (xs : List ℕ) → memb x xs ≡ true → isEmpty xs ≡ false
 unfolding memb
 memb-some x [] m = absurd (false≢true m)
 memb-some x (y ∷ ys) m = refl
-
--- ** Who is incoming after a change
 
 pub incoming-of : (c : Conf) (ps : List Peer) → Sound c ps → (y : ℕ) → memb y (c .incoming) ≡ placesOf (boxAt c ps y .standing) .incoming
 incoming-of c ps s y = ap (λ (p : Places). p .incoming) (s .stands y)

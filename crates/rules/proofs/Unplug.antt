@@ -23,7 +23,8 @@ use Rattle.rules.proofs.Steps.{Checked, Ordered}
 use Rattle.rules.proofs.Order.{formed-of, ordered-of}
 use Rattle.rules.proofs.Applied.{single-checked}
 use Rattle.rules.proofs.Accept.{fine-start, simple-accepted}
-use Rattle.rules.proofs.Singles.{few-differ, incoming-after, incoming-of, near}
+use Rattle.rules.proofs.Near.{near}
+use Rattle.rules.proofs.Singles.{few-differ, incoming-after, incoming-of}
 
 -- ** Whether another voter exists
 
