@@ -42,6 +42,10 @@ checked-of s f k a =
 pub single-checked : (s : State) → formed s ≡ true → check (isTracked s) (s .conf) ≡ ok → joint (s .conf) ≡ false → Checked s
 single-checked s f k j = checked-of s f k (single-apart (isTracked s) (s .conf) (passes-of (isTracked s) (s .conf) k) j)
 
+-- one of which a call was accepted
+pub asked-from : (s : State) → formed s ≡ true → (p : Step) (c : Conf) (log : List Entry) → ask s p ≡ accepted c log → Checked s
+asked-from s f p c log e = checked-of s f (asked-passes s p c log e) (asked-apart s p c log e)
+
 pub record Applied (s : State) (n : ℕ) (c : Conf) (log : List Entry) : Type 0 where
   pub fits : confFormed c ≡ true
   pub short : length log ≤ 256
@@ -62,7 +66,7 @@ any-applied s f n p h c log e =
     r = freshRecord n (s .maxInflight)
 
     k : Checked s
-    k = checked-of s f (asked-passes s p c log e) (asked-apart s p c log e)
+    k = asked-from s f p c log e
 
     d : Stepped s (freshRecord n (s .maxInflight)) p c log
     d = asked-checked s k (freshRecord n (s .maxInflight)) p h c log e

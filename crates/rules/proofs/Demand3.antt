@@ -1,4 +1,4 @@
--- Demand 3. Assumes nothing.
+-- Demand 3, and document 02's i): what holds at each accepted step of any sequence of calls. Assumes nothing.
 use Prim.Native.Nat.{ℕ, suc, _+_, _≤_}
 use mathlib.Core.Path.{_≡_, refl, ap, _∙_, subst, sym}
 use mathlib.Core.Bool.{Bool, true, false, _&&_, _||_, not, cond}
@@ -11,21 +11,23 @@ use Rattle.progress.specs.Record.{freshRecord}
 use Rattle.progress.specs.declared.Progress.{Progress}
 use Rattle.rules.specs.Ids.{isEmpty}
 use Rattle.rules.specs.State.{Change, Conf, ConfState, Entry, Kind, State, addLearner, addNode, formed, noConf, removeNode}
-use Rattle.rules.specs.Answers.{Answer, Verdict, _⇒_, _▸_, accepted, each, fault, ok, refuse, refused, settle}
+use Rattle.rules.specs.Answers.{Answer, Outcome, Verdict, _⇒_, _▸_, accepted, each, fault, ok, refuse, refused, settle}
 use Rattle.rules.specs.Check.{inOrder}
-use Rattle.rules.specs.Calls.{enterJoint, enterOf, leaveJoint, leaveOf, listOf, readable, simple, simpleOf}
+use Rattle.rules.specs.Calls.{enterJoint, leaveJoint, leaveOf, listOf, readable, simple}
 use Rattle.rules.specs.Apply.{applied}
-use Rattle.rules.specs.Restore.{Step, all, applyAnswer, ask, enterStep, goOn, guarded, leaveStep, oneByOne, restorable, restore, restoreStepByStep, restoreSteps, run, short, simpleStep, wanted}
-use Rattle.rules.specs.Sequences.{Call, Deed, afterCalls, deeds, deedsOf, deedsOfRun, enterCall, ifOk, inTurn, leaveCall, perform, restoreCall, simpleCall, stepByStepCall}
+use Rattle.rules.specs.Restore.{Step, all, applyAnswer, ask, attempt, enterStep, goOn, guarded, leaveStep, oneByOne, restorable, restore, restoreStepByStep, restoreSteps, run, short, simpleStep, wanted}
+use Rattle.rules.specs.Sequences.{Call, Deed, afterCalls, afterDeeds, deeds, deedsOf, deedsOfRun, enterCall, ifOk, inTurn, leaveCall, perform, restoreCall, simpleCall, stepByStepCall}
 use Rattle.rules.specs.Boxes.{Event, boxOf, events, named, naming, replay}
+use Rattle.rules.specs.Quorum.{CallsShare, EachStepShares, Neighbours, SequenceShares}
 use Rattle.rules.specs.Demands.{Kept}
 use Rattle.rules.proofs.Sets.{and-left, and-right, or-right}
-use Rattle.rules.proofs.Plain.{events-append, replay-append, replay-step, stepBox}
+use Rattle.rules.proofs.Plain.{events-append, replay-append, replay-step}
 use Rattle.rules.proofs.Check.{refuse-ok, then-left, then-right}
 use Rattle.rules.proofs.Steps.{Ordered, Stepped}
 use Rattle.rules.proofs.Means.{given-ok, given-then}
 use Rattle.rules.proofs.Whole.{steps-counted}
-use Rattle.rules.proofs.Order.{apply-ok, apply-ordered, asked, in-order, ordered-of, stepShort, tracked-members}
+use Rattle.rules.proofs.Applied.{asked-from}
+use Rattle.rules.proofs.Order.{apply-ok, apply-ordered, asked, asked-checked, in-order, ordered-of, stepShort, tracked-members}
 
 -- ** Every list of a call can be read
 
@@ -98,6 +100,42 @@ restore-short s cs h = go (isEmpty (cs .votersOutgoing))
     go true = one-only (wanted cs)
     go false = one-short (all addNode (cs .votersOutgoing)) (enterStep (cs .autoLeave) (all removeNode (cs .votersOutgoing) ++ wanted cs) ∷ []) (total, tt)
 
+-- ** An accepted call is an accepted step, of a well-formed state and with a list that can be read
+
+pub record Taken (s : State) (p : Step) (c : Conf) (log : List Entry) : Type 0 where
+  pub well : formed s ≡ true
+  pub short : stepShort p
+  pub step : ask s p ≡ accepted c log
+
+module _ (s : State) (c : Conf) (log : List Entry) where
+  abbrev ill : Verdict
+  ill = refuse (not (formed s)) 1 0
+
+  well-of : ill ≡ ok → formed s ≡ true
+  well-of h = not-false (formed s) (refuse-ok (not (formed s)) 1 0 h)
+
+  -- a step that goes by a list
+  listed : (xs ks : List ℕ) (p : Step) → (length (listOf xs ks) ≤ 256 → stepShort p) → ill ▸ readable xs ks ⇒ ask s p ≡ accepted c log → Taken s p c log
+  listed xs ks p fits h =
+      let k : ill ▸ readable xs ks ≡ ok = given-ok c log (ill ▸ readable xs ks) (ask s p) h in
+      record {
+        well = well-of (then-left ill (readable xs ks) k);
+        short = fits (read-short xs ks (then-right ill (readable xs ks) k));
+        step = given-then c log (ill ▸ readable xs ks) (ask s p) h;
+      }
+
+  pub simple-taken : (xs ks : List ℕ) → simple s xs ks ≡ accepted c log → Taken s (simpleStep (listOf xs ks)) c log
+  unfolding simple ask
+  simple-taken xs ks = listed xs ks (simpleStep (listOf xs ks)) (λ k. k)
+
+  pub enter-taken : (auto : Bool) (xs ks : List ℕ) → enterJoint s auto xs ks ≡ accepted c log → Taken s (enterStep auto (listOf xs ks)) c log
+  unfolding enterJoint ask
+  enter-taken auto xs ks = listed xs ks (enterStep auto (listOf xs ks)) (λ k. k)
+
+  pub leave-taken : leaveJoint s ≡ accepted c log → Taken s leaveStep c log
+  unfolding leaveJoint ask
+  leave-taken h = record { well = well-of (given-ok c log ill (leaveOf s) h); short = tt; step = given-then c log ill (leaveOf s) h }
+
 -- ** From s to t by the accepted steps ds
 
 -- what holds besides of a state that calls lead to from the fresh one: there is a voter or nothing
@@ -109,10 +147,22 @@ pub record Leads (s t : State) (ds : List Deed) : Type 0 where
   pub inflight : t .maxInflight ≡ s .maxInflight
   pub boxes : (x : ℕ) → boxOf t x ≡ replay (events (s .maxInflight) x ds) (boxOf s x)
   pub reached : Reached s → Reached t
+  pub shares : EachStepShares s ds
+  pub end : afterDeeds s ds ≡ t
 
 leads-none : (s : State) → Ordered s → Leads s s []
-unfolding replay events
-leads-none s o = record { ordered = o; inflight = refl; boxes = λ x. refl; reached = λ r. r }
+unfolding replay events EachStepShares afterDeeds
+leads-none s o = record { ordered = o; inflight = refl; boxes = λ x. refl; reached = λ r. r; shares = tt; end = refl }
+
+shares-more : (s : State) (ds es : List Deed) → EachStepShares s ds → EachStepShares (afterDeeds s ds) es → EachStepShares s (ds ++ es)
+unfolding EachStepShares afterDeeds
+shares-more s [] es a b = b
+shares-more s (d ∷ ds) es a b = (a .0, shares-more (attempt (d .next) s (d .step) .state) ds es (a .1) b)
+
+after-more : (s : State) (ds es : List Deed) → afterDeeds s (ds ++ es) ≡ afterDeeds (afterDeeds s ds) es
+unfolding afterDeeds
+after-more s [] es = refl
+after-more s (d ∷ ds) es = after-more (attempt (d .next) s (d .step) .state) ds es
 
 leads-more : (s t u : State) (ds es : List Deed) → Leads s t ds → Leads t u es → Leads s u (ds ++ es)
 leads-more s t u ds es a b =
@@ -121,13 +171,35 @@ leads-more s t u ds es a b =
       inflight = b .inflight ∙ a .inflight;
       boxes = λ x. b .boxes x ∙ rw (a .inflight, a .boxes x) (sym (ap (λ (l : List Event). replay l (boxOf s x)) (events-append (s .maxInflight) x ds es) ∙ replay-append (events (s .maxInflight) x ds) (events (s .maxInflight) x es) (boxOf s x)));
       reached = λ r. b .reached (a .reached r);
+      shares = shares-more s ds es (a .shares) (rw (a .end) (b .shares));
+      end = after-more s ds es ∙ ap (λ (v : State). afterDeeds v es) (a .end) ∙ b .end;
     }
 
-leads-step : (s t : State) (d : Deed) → Ordered t → t .maxInflight ≡ s .maxInflight
-    → ((x : ℕ) → boxOf t x ≡ stepBox (freshRecord (d .next) (s .maxInflight)) x (d .step) (boxOf s x)) → (Reached s → Reached t) → (u : State) (ds : List Deed) → Leads t u ds → Leads s u (d ∷ ds)
-unfolding events
-leads-step s t d o e b k u ds l =
-    leads-more s t u (d ∷ []) ds (record { ordered = o; inflight = e; boxes = λ x. b x ∙ rw append-nil (sym (replay-step (freshRecord (d .next) (s .maxInflight)) x (d .step) (boxOf s x))); reached = k }) l
+-- one accepted step
+module _ (s : State) (o : Ordered s) (n : ℕ) (p : Step) (h : stepShort p) (c : Conf) (log : List Entry) (e : ask s p ≡ accepted c log) where
+  stepped : Stepped s (freshRecord n (s .maxInflight)) p c log
+  stepped = asked s o (freshRecord n (s .maxInflight)) p h c log e
+
+  attempted : attempt n s p ≡ record { verdict = ok; state = applied s c log n }
+  attempted = ap (applyAnswer s n) e ∙ apply-ok s o n p c log stepped
+
+  next : Ordered (applied s c log n)
+  next = apply-ordered s o n p c log stepped
+
+  one-leads : Leads s (applied s c log n) (record { step = p; next = n } ∷ [])
+  unfolding events EachStepShares afterDeeds
+  one-leads =
+      record {
+        ordered = next;
+        inflight = refl;
+        boxes = λ x. stepped .boxes x ∙ rw append-nil (sym (replay-step (freshRecord n (s .maxInflight)) x p (boxOf s x)));
+        reached = stepped .voters;
+        shares = (record { taken = rw attempted; before = in-order s o; after = rw attempted (in-order (applied s c log n) next); neighbours = rw attempted (stepped .neighbours) }, tt);
+        end = ap (λ (o : Outcome). o .state) attempted;
+      }
+
+  leads-step : (u : State) (ds : List Deed) → (Ordered (applied s c log n) → Leads (applied s c log n) u ds) → Leads s u (record { step = p; next = n } ∷ ds)
+  leads-step u ds k = leads-more s (applied s c log n) u (record { step = p; next = n } ∷ []) ds one-leads (k (one-leads .ordered))
 
 run-leads : (n : ℕ) (ps : List Step) → allShort ps → (s : State) → Ordered s → Leads s (run n s ps .state) (deedsOfRun n s ps)
 unfolding run deedsOfRun
@@ -138,17 +210,15 @@ run-leads n (p ∷ ps) h s o = go (ask s p) refl (run-leads n ps (h .1))
         → Leads s (goOn (applyAnswer s n a) (λ t. run n t ps) .state)
         (ifOk (applyAnswer s n a .verdict) (record { step = p; next = n } ∷ deedsOfRun n (applyAnswer s n a .state) ps))
     go (accepted c log) e ih =
-        let d : Stepped s (freshRecord n (s .maxInflight)) p c log = asked s o (freshRecord n (s .maxInflight)) p (h .0) c log e in
-        let o′ : Ordered (applied s c log n) = apply-ordered s o n p c log d in
-        rw (apply-ok s o n p c log d) (leads-step s (applied s c log n) (record { step = p; next = n }) o′ refl (d .boxes) (d .voters) (run n (applied s c log n) ps .state) (deedsOfRun n (applied s c log n) ps) (ih (applied s c log n) o′))
+        rw (apply-ok s o n p c log (stepped s o n p (h .0) c log e))
+        (leads-step s o n p (h .0) c log e (run n (applied s c log n) ps .state) (deedsOfRun n (applied s c log n) ps) (ih (applied s c log n)))
     go (refused m x) e ih = leads-none s o
 
-answer-leads : (s : State) → Ordered s → (n : ℕ) (p : Step) (a : Answer) → ((c : Conf) (log : List Entry) → a ≡ accepted c log → Stepped s (freshRecord n (s .maxInflight)) p c log)
+answer-leads : (s : State) → Ordered s → (n : ℕ) (p : Step) (a : Answer) → ((c : Conf) (log : List Entry) → a ≡ accepted c log → Taken s p c log)
     → Leads s (applyAnswer s n a .state) (ifOk (applyAnswer s n a .verdict) (record { step = p; next = n } ∷ []))
 answer-leads s o n p (accepted c log) h =
-    let d : Stepped s (freshRecord n (s .maxInflight)) p c log = h c log refl in
-    let o′ : Ordered (applied s c log n) = apply-ordered s o n p c log d in
-    rw (apply-ok s o n p c log d) (leads-step s (applied s c log n) (record { step = p; next = n }) o′ refl (d .boxes) (d .voters) (applied s c log n) [] (leads-none (applied s c log n) o′))
+    let k : Taken s p c log = h c log refl in
+    rw (apply-ok s o n p c log (stepped s o n p (k .short) c log (k .step))) (one-leads s o n p (k .short) c log (k .step))
 answer-leads s o n p (refused m x) h = leads-none s o
 
 -- a restore, step by step
@@ -161,20 +231,10 @@ steps-lead s o cs n = go (restorable s cs) refl
     go (fault m x) e = leads-none s o
 
 pub call-leads : (s : State) → Ordered s → (c : Call) → Leads s (perform s c .state) (deedsOf s c)
-unfolding perform deedsOf simple enterJoint leaveJoint restore ask
-call-leads s o (simpleCall xs ks n) =
-    answer-leads s o n (simpleStep (listOf xs ks)) (refuse (not (formed s)) 1 0 ▸ readable xs ks ⇒ simpleOf s (listOf xs ks)) (λ c log e.
-    asked s o (freshRecord n (s .maxInflight)) (simpleStep (listOf xs ks))
-    (read-short xs ks (then-right (refuse (not (formed s)) 1 0) (readable xs ks) (given-ok c log (refuse (not (formed s)) 1 0 ▸ readable xs ks) (simpleOf s (listOf xs ks)) e))) c log
-    (given-then c log (refuse (not (formed s)) 1 0 ▸ readable xs ks) (simpleOf s (listOf xs ks)) e))
-call-leads s o (enterCall auto xs ks n) =
-    answer-leads s o n (enterStep auto (listOf xs ks)) (refuse (not (formed s)) 1 0 ▸ readable xs ks ⇒ enterOf s auto (listOf xs ks)) (λ c log e.
-    asked s o (freshRecord n (s .maxInflight)) (enterStep auto (listOf xs ks))
-    (read-short xs ks (then-right (refuse (not (formed s)) 1 0) (readable xs ks) (given-ok c log (refuse (not (formed s)) 1 0 ▸ readable xs ks) (enterOf s auto (listOf xs ks)) e))) c log
-    (given-then c log (refuse (not (formed s)) 1 0 ▸ readable xs ks) (enterOf s auto (listOf xs ks)) e))
-call-leads s o (leaveCall n) =
-    answer-leads s o n leaveStep (refuse (not (formed s)) 1 0 ⇒ leaveOf s) (λ c log e.
-    asked s o (freshRecord n (s .maxInflight)) leaveStep tt c log (given-then c log (refuse (not (formed s)) 1 0) (leaveOf s) e))
+unfolding perform deedsOf restore
+call-leads s o (simpleCall xs ks n) = answer-leads s o n (simpleStep (listOf xs ks)) (simple s xs ks) (λ c log. simple-taken s c log xs ks)
+call-leads s o (enterCall auto xs ks n) = answer-leads s o n (enterStep auto (listOf xs ks)) (enterJoint s auto xs ks) (λ c log. enter-taken s c log auto xs ks)
+call-leads s o (leaveCall n) = answer-leads s o n leaveStep (leaveJoint s) (λ c log. leave-taken s c log)
 call-leads s o (restoreCall cs n) = go (restoreStepByStep s cs n .verdict) refl
   where
     go : (v : Verdict) → restoreStepByStep s cs n .verdict ≡ v
@@ -201,6 +261,27 @@ demand-3 s h cs =
       standing = l .ordered .sound .stands;
       boxes = l .boxes;
     }
+
+-- ** Document 02, i)
+
+pub sequence-shares : (s : State) → inOrder s ≡ true → (cs : List Call) → SequenceShares s cs
+sequence-shares s h cs =
+    let l : Leads s (afterCalls s cs) (deeds s cs) = calls-lead cs s (ordered-of s h) in
+    record { steps = l .shares; end = l .end }
+
+-- an accepted call, of any state
+taken-shares : (s : State) (p : Step) (c : Conf) (log : List Entry) → Taken s p c log → Neighbours (s .conf) c
+taken-shares s p c log k = asked-checked s (asked-from s (k .well) p c log (k .step)) (freshRecord 0 0) p (k .short) c log (k .step) .neighbours
+
+pub calls-share : (s : State) → CallsShare s
+calls-share s =
+    record {
+      simple = λ xs ks c log e. taken-shares s (simpleStep (listOf xs ks)) c log (simple-taken s c log xs ks e);
+      enter = λ auto xs ks c log e. taken-shares s (enterStep auto (listOf xs ks)) c log (enter-taken s c log auto xs ks e);
+      leave = λ c log e. taken-shares s leaveStep c log (leave-taken s c log e);
+    }
+
+-- ** Other boxes
 
 -- in a list, changes that name other boxes are no event of this one
 pub others-alter-nothing : (r : Progress) (x : ℕ) (cs ds : List Change) (c : Change) → eqb (c .id) x ≡ false → naming r x (cs ++ (c ∷ ds)) ≡ naming r x (cs ++ ds)

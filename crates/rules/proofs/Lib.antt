@@ -7,6 +7,7 @@ pub mod Changes
 pub mod Check
 pub mod Means
 pub mod Near
+pub mod Quorum
 pub mod Steps
 pub mod Order
 pub mod Applied

@@ -1,11 +1,11 @@
--- What each accepted step does to each box. Assumes nothing.
+-- What each accepted step does to each box; and the configurations before and after it are neighbours. Assumes nothing.
 use Prim.Native.Nat.{ℕ, zero, suc, _≤_}
 use mathlib.Core.Path.{_≡_, refl, ap, _∙_, sym}
 use mathlib.Core.Bool.{Bool, true, false, _&&_, _||_, not, cond, true≢false}
 use mathlib.Core.List.{List, [], _∷_}
 use native.Mathlib.Omega.{arith}
 use borrow.Author.Tests.{not-false}
-use lib.Dec.{eqb}
+use lib.Dec.{eqb, leb}
 use lib.ListN.{length}
 use Rattle.progress.specs.declared.Progress.{Progress}
 use Rattle.rules.specs.Ids.{ascending, insertAll, isEmpty, memb, minus, removeId}
@@ -14,9 +14,10 @@ use Rattle.rules.specs.Answers.{accepted, ok}
 use Rattle.rules.specs.Check.{check, isTracked, joint}
 use Rattle.rules.specs.Table.{I, IO, L, O, OS, Places, Standing, idle, none, places, placesOf, standingIn}
 use Rattle.rules.specs.Changes.{Work, pending, pendingTracked}
-use Rattle.rules.specs.Calls.{enterOf, entering, gone, leaveOf, leaving, removals, simpleOf, start, withAuto}
+use Rattle.rules.specs.Calls.{difference, enterOf, entering, gone, leaveOf, leaving, removals, simpleOf, start, withAuto}
 use Rattle.rules.specs.Apply.{enrol, room, untrack}
 use Rattle.rules.specs.Restore.{Step, enterStep, leaveStep, simpleStep}
+use Rattle.rules.specs.Quorum.{Neighbours}
 use Rattle.rules.specs.Boxes.{Found, absent, enterBox, enterStanding, leaveBox, leaveRecord, leaveStanding, recordOf}
 use Rattle.rules.proofs.Sets.{ascending-all, ascending-remove, empty-none, length-part, length-remove-le, memb-all, memb-minus, memb-remove}
 use Rattle.rules.proofs.Peers.{ids-untrack, record-untrack}
@@ -25,6 +26,8 @@ use Rattle.rules.proofs.Boxes.{Sound, boxAt, spot, standing-places}
 use Rattle.rules.proofs.Changes.{After, Fine, changes-done, now}
 use Rattle.rules.proofs.Means.{Simple, simple-means, Enter, enter-means, Leave, leave-means}
 use Rattle.rules.proofs.Check.{passes-of}
+use Rattle.rules.proofs.Near.{near-itself}
+use Rattle.rules.proofs.Quorum.{by-incoming, by-outgoing}
 
 abbrev pub isIdle : Standing → Bool
 isIdle none = false
@@ -61,6 +64,7 @@ pub record Stepped (s : State) (r : Progress) (p : Step) (c : Conf) (log : List 
   pub checked : check (pendingTracked (ids (s .peers)) log) c ≡ ok
   pub boxes : (y : ℕ) → boxAt c (enrol r log (s .peers)) y ≡ stepBox r y p (boxAt (s .conf) (s .peers) y)
   pub voters : (isEmpty (s .conf .incoming) ≡ true → s .conf ≡ noConf) → isEmpty (c .incoming) ≡ true → c ≡ noConf
+  pub neighbours : Neighbours (s .conf) c
 
 pub no-joint : (c : Conf) → joint c ≡ false → (x : ℕ) → memb x (c .outgoing) ≡ false
 no-joint c h x = empty-none (c .outgoing) (not-false (isEmpty (c .outgoing)) h) x
@@ -248,9 +252,10 @@ stepped-at s r p e f a = rw (← e, ← f) a
 
 module _ (s : State) (o : Checked s) (r : Progress) where
   module _ (cs : List Change) (short : length cs ≤ 256) where
-    simple-from : (w : Work) → After r (s .peers) (o .sound .ids↑) cs (start (s .conf)) w → check (pendingTracked (ids (s .peers)) (w .log)) (w .conf) ≡ ok → isEmpty (w .conf .incoming) ≡ false → Stepped s r (simpleStep cs) (w .conf) (w .log)
+    simple-from : (w : Work) → After r (s .peers) (o .sound .ids↑) cs (start (s .conf)) w → check (pendingTracked (ids (s .peers)) (w .log)) (w .conf) ≡ ok → isEmpty (w .conf .incoming) ≡ false
+        → leb 2 (difference (w .conf .incoming) (s .conf .incoming)) ≡ false → Stepped s r (simpleStep cs) (w .conf) (w .log)
     unfolding enrol
-    simple-from w a k v =
+    simple-from w a k v near =
         record {
           sound = a .fine .sound;
           fits = a .fine .fits;
@@ -259,6 +264,7 @@ module _ (s : State) (o : Checked s) (r : Progress) where
           checked = k;
           boxes = a .boxes;
           voters = λ f e. absurd (true≢false (sym e ∙ v));
+          neighbours = by-incoming (s .conf) (w .conf) (λ b. v) (o .sound .incoming↑) (a .fine .sound .incoming↑) near;
         }
 
     pub simple-stepped : (c : Conf) (log : List Entry) → simpleOf s cs ≡ accepted c log → Stepped s r (simpleStep cs) c log
@@ -266,12 +272,12 @@ module _ (s : State) (o : Checked s) (r : Progress) where
     simple-stepped c log h =
         let m : Simple s cs c log = simple-means s c log cs h in
         let f : Fine r (s .peers) (o .sound .ids↑) (start (s .conf)) = record { sound = o .sound; fits = refl; few = o .few } in
-        stepped-at s r (simpleStep cs) (m .conf) (m .logs) (simple-from (m .work) (changes-done r (s .peers) (o .sound .ids↑) cs (start (s .conf)) (m .work) (m .does) f) (m .again) (m .voter))
+        stepped-at s r (simpleStep cs) (m .conf) (m .logs) (simple-from (m .work) (changes-done r (s .peers) (o .sound .ids↑) cs (start (s .conf)) (m .work) (m .does) f) (m .again) (m .voter) (m .near))
 
-    enter-from : (auto : Bool) (w : Work) → joint (s .conf) ≡ false → After r (s .peers) (o .sound .ids↑) cs (start (entering (s .conf))) w
+    enter-from : (auto : Bool) (w : Work) → joint (s .conf) ≡ false → isEmpty (s .conf .incoming) ≡ false → After r (s .peers) (o .sound .ids↑) cs (start (entering (s .conf))) w
         → check (pendingTracked (ids (s .peers)) (w .log)) (withAuto auto (w .conf)) ≡ ok → isEmpty (w .conf .incoming) ≡ false → Stepped s r (enterStep auto cs) (withAuto auto (w .conf)) (w .log)
     unfolding enrol
-    enter-from auto w j a k v =
+    enter-from auto w j b a k v =
         record {
           sound = auto-sound auto (w .conf) (now r (s .peers) (o .sound .ids↑) w) (a .fine .sound);
           fits = a .fine .fits;
@@ -280,6 +286,7 @@ module _ (s : State) (o : Checked s) (r : Progress) where
           checked = k;
           boxes = λ y. a .boxes y ∙ ap (changesBox r y cs) (enter-box (s .conf) (s .peers) (o .sound) j y);
           voters = λ f e. absurd (true≢false (sym e ∙ v));
+          neighbours = by-outgoing (s .conf) (withAuto auto (w .conf)) (λ i. v) (o .sound .incoming↑) b (a .outgoing);
         }
 
     pub enter-stepped : (auto : Bool) (c : Conf) (log : List Entry) → enterOf s auto cs ≡ accepted c log → Stepped s r (enterStep auto cs) c log
@@ -287,7 +294,7 @@ module _ (s : State) (o : Checked s) (r : Progress) where
     enter-stepped auto c log h =
         let m : Enter s auto cs c log = enter-means s c log auto cs h in
         let f : Fine r (s .peers) (o .sound .ids↑) (start (entering (s .conf))) = record { sound = enter-sound (s .conf) (s .peers) (o .sound) (m .single); fits = refl; few = o .few } in
-        stepped-at s r (enterStep auto cs) (m .conf) (m .logs) (enter-from auto (m .work) (m .single) (changes-done r (s .peers) (o .sound .ids↑) cs (start (entering (s .conf))) (m .work) (m .does) f) (m .again) (m .voter))
+        stepped-at s r (enterStep auto cs) (m .conf) (m .logs) (enter-from auto (m .work) (m .single) (m .before) (changes-done r (s .peers) (o .sound .ids↑) cs (start (entering (s .conf))) (m .work) (m .does) f) (m .again) (m .voter))
 
   pub leave-stepped : (c : Conf) (log : List Entry) → leaveOf s ≡ accepted c log → Stepped s r leaveStep c log
   leave-stepped c log h =
@@ -307,4 +314,5 @@ module _ (s : State) (o : Checked s) (r : Progress) where
             checked = k;
             boxes = leave-box r (s .conf) (s .peers) (o .sound);
             voters = λ f e. absurd (true≢false (sym j ∙ ap joint (f e)));
+            neighbours = by-incoming (s .conf) (leaving (s .conf)) (λ v. v) (o .sound .incoming↑) (o .sound .incoming↑) (near-itself (s .conf .incoming) (o .sound .incoming↑));
           }

@@ -8,37 +8,36 @@ use lib.Dec.{eqb}
 use lib.ListN.{length}
 use Rattle.progress.specs.declared.Progress.{Progress}
 use Rattle.rules.specs.Ids.{memb, ascending, isEmpty}
-use Rattle.rules.specs.State.{Conf, ConfState, Peer, State, ids, members, formed, fresh, noConf, Change, Entry}
-use Rattle.rules.specs.Answers.{ok, fault, accepted, refuse, _▸_}
+use Rattle.rules.specs.State.{Conf, ConfState, Peer, State, ids, members, fresh, noConf, Change, Entry}
+use Rattle.rules.specs.Answers.{ok, fault, accepted}
 use Rattle.rules.specs.Check.{check, isTracked, inOrder, joint}
 use Rattle.rules.specs.Table.{placesOf, placesIn}
 use Rattle.rules.specs.Changes.{pendingTracked, Work, done, change}
-use Rattle.rules.specs.Calls.{listOf, readable, simpleOf, simple, enterOf, enterJoint, gone, leaveOf, leaveJoint, leaving, removals}
+use Rattle.rules.specs.Calls.{listOf, simple, enterJoint, gone, leaveJoint, leaving, removals}
 use Rattle.rules.specs.Idle.{enterIdles, enterWorks, simpleIdles, simpleWorks}
 use Rattle.rules.specs.Apply.{applyConf}
-use Rattle.rules.specs.Restore.{Step, simpleStep, enterStep, leaveStep, ask}
+use Rattle.rules.specs.Restore.{Step, simpleStep, enterStep, leaveStep}
 use Rattle.rules.specs.Sequences.{Call, perform, afterCalls}
 use Rattle.rules.specs.Boxes.{Box, changeBox, naming}
 use Rattle.rules.specs.Unplug.{quick, straight, unplug}
+use Rattle.rules.specs.Quorum.{CallsShare, Group, SequenceShares, quorum}
 use Rattle.rules.specs.Rust.{byKind}
 use Rattle.rules.specs.Demands.{Kept, ComesBack, Whole}
 use Rattle.rules.proofs.Plain.{changesBox}
 use Rattle.rules.proofs.Boxes.{boxAt}
 use Rattle.rules.proofs.Changes.{now, Fine, After, change-done, tracked-now}
-use Rattle.rules.proofs.Check.{then-left, then-right, refuse-ok}
-use Rattle.rules.proofs.Means.{given-ok, given-then}
 use Rattle.rules.proofs.Steps.{Ordered}
-use Rattle.rules.proofs.Order.{formed-of, ordered-of, stepShort}
+use Rattle.rules.proofs.Order.{formed-of, ordered-of}
 use Rattle.rules.proofs.Accept.{leave-accepted}
 use Rattle.rules.proofs.Applied.{any-applied}
 use Rattle.rules.proofs.Idle.{enter-counts, simple-counts}
 use Rattle.rules.proofs.Whole.{whole}
-use Rattle.rules.proofs.Demand3.{demand-3, read-short, others-alter-nothing}
+use Rattle.rules.proofs.Quorum.{voterless}
+use Rattle.rules.proofs.Demand3.{Taken, calls-share, demand-3, enter-taken, leave-taken, others-alter-nothing, sequence-shares, simple-taken}
 use Rattle.rules.proofs.Table.{change-agrees}
 use Rattle.rules.proofs.Thirteen.{check-never-13, call-never-13}
 use Rattle.rules.proofs.Unplug.{unplug-quick, unplug-straight}
 use Rattle.rules.proofs.RoundTrip.{empty-trip, fresh-in-order, order-trip, round-trip}
-use borrow.Author.Tests.{not-false}
 
 -- ** Number 13 is never given
 
@@ -71,30 +70,17 @@ change-alters-only-its-own r ps up c w v f h y e =
 
 -- of any well-formed state, in order or not, apply_conf takes every answer that a call accepted
 module _ (s : State) (n : ℕ) (c : Conf) (log : List Entry) where
-  taken : formed s ≡ true → (p : Step) → stepShort p → ask s p ≡ accepted c log → applyConf s c log n .verdict ≡ ok
-  taken f p h e = ap (λ o. o .verdict) (any-applied s f n p h c log e .done)
-
-  well : refuse (not (formed s)) 1 0 ≡ ok → formed s ≡ true
-  well h = not-false (formed s) (refuse-ok (not (formed s)) 1 0 h)
+  applies : (p : Step) → Taken s p c log → applyConf s c log n .verdict ≡ ok
+  applies p k = ap (λ o. o .verdict) (any-applied s (k .well) n p (k .short) c log (k .step) .done)
 
   pub simple-is-applied : (xs ks : List ℕ) → simple s xs ks ≡ accepted c log → applyConf s c log n .verdict ≡ ok
-  unfolding simple ask
-  simple-is-applied xs ks h =
-      let k : refuse (not (formed s)) 1 0 ▸ readable xs ks ≡ ok = given-ok c log (refuse (not (formed s)) 1 0 ▸ readable xs ks) (simpleOf s (listOf xs ks)) h in
-      taken (well (then-left (refuse (not (formed s)) 1 0) (readable xs ks) k)) (simpleStep (listOf xs ks)) (read-short xs ks (then-right (refuse (not (formed s)) 1 0) (readable xs ks) k))
-      (given-then c log (refuse (not (formed s)) 1 0 ▸ readable xs ks) (simpleOf s (listOf xs ks)) h)
+  simple-is-applied xs ks h = applies (simpleStep (listOf xs ks)) (simple-taken s c log xs ks h)
 
   pub enter-is-applied : (auto : Bool) (xs ks : List ℕ) → enterJoint s auto xs ks ≡ accepted c log → applyConf s c log n .verdict ≡ ok
-  unfolding enterJoint ask
-  enter-is-applied auto xs ks h =
-      let k : refuse (not (formed s)) 1 0 ▸ readable xs ks ≡ ok = given-ok c log (refuse (not (formed s)) 1 0 ▸ readable xs ks) (enterOf s auto (listOf xs ks)) h in
-      taken (well (then-left (refuse (not (formed s)) 1 0) (readable xs ks) k)) (enterStep auto (listOf xs ks)) (read-short xs ks (then-right (refuse (not (formed s)) 1 0) (readable xs ks) k))
-      (given-then c log (refuse (not (formed s)) 1 0 ▸ readable xs ks) (enterOf s auto (listOf xs ks)) h)
+  enter-is-applied auto xs ks h = applies (enterStep auto (listOf xs ks)) (enter-taken s c log auto xs ks h)
 
   pub leave-is-applied : leaveJoint s ≡ accepted c log → applyConf s c log n .verdict ≡ ok
-  unfolding leaveJoint ask
-  leave-is-applied h =
-      taken (well (given-ok c log (refuse (not (formed s)) 1 0) (leaveOf s) h)) leaveStep tt (given-then c log (refuse (not (formed s)) 1 0) (leaveOf s) h)
+  leave-is-applied h = applies leaveStep (leave-taken s c log h)
 
 -- ** Which changes did nothing
 
@@ -157,6 +143,21 @@ unplug-is-told = unplug-straight
 -- "For every state in order and every id": from joint or not, and whether another incoming voter exists
 pub unplug-is-quick : (s : State) → inOrder s ≡ true → (x : ℕ) → unplug s x ≡ quick s x
 unplug-is-quick = unplug-quick
+
+-- ** Any two neighbours share a box: document 02, i)
+
+-- "For any accepted `simple`, enter or leave .. each quorum of the configuration before has a box in common with each quorum after it": "from a
+-- state in order", and from any other
+pub neighbours-share : (s : State) → CallsShare s
+neighbours-share = calls-share
+
+-- "This is to hold at each step of any sequence, restore's own steps included."
+pub neighbours-share-throughout : (s : State) → inOrder s ≡ true → (cs : List Call) → SequenceShares s cs
+neighbours-share-throughout = sequence-shares
+
+-- "with an incoming voter before the call": without one no group is a quorum, and there is nothing to share
+pub no-voter-no-quorum : (c : Conf) → isEmpty (c .incoming) ≡ true → (g : Group) → quorum g c ≡ false
+no-voter-no-quorum = voterless
 
 -- ** The demands
 

@@ -11,6 +11,7 @@ pub mod Restore
 pub mod Sequences
 pub mod Boxes
 pub mod Unplug
+pub mod Quorum
 pub mod Rust
 pub mod Demands
 pub mod Rows
@@ -20,3 +21,4 @@ pub mod Refusals
 pub mod Faults
 pub mod IdleExamples
 pub mod UnplugExamples
+pub mod QuorumExamples

@@ -60,3 +60,8 @@ deedsOf s (stepByStepCall cs n) = ifOk (restorable s cs) (deedsOfRun n s (restor
 unfoldable pub deeds : State → List Call → List Deed
 deeds s [] = []
 deeds s (c ∷ cs) = deedsOf s c ++ deeds (perform s c .state) cs
+
+-- the state that accepted steps lead to, each asked of the one that those before it left
+unfoldable pub afterDeeds : State → List Deed → State
+afterDeeds s [] = s
+afterDeeds s (d ∷ ds) = afterDeeds (attempt (d .next) s (d .step) .state) ds
