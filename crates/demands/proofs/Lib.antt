@@ -8,6 +8,7 @@ pub mod Refused
 pub mod Whole
 pub mod RoundTrip
 pub mod Ordered
+pub mod Neighbours
 pub mod Walked
 pub mod Settled
 pub mod Lent

@@ -1,5 +1,5 @@
 -- What is claimed of the public calls, one theorem for each of the maintainer's sentences. They speak of the definitions that the public
--- contracts are equal to; the statements are specs/Demands.antt and specs/Statements.antt. Assumes nothing.
+-- contracts are equal to; the statements are specs/Demands.antt, Statements.antt and Neighbours.antt. Assumes nothing.
 use Prim.Native.Nat.{ℕ}
 use mathlib.Core.Path.{_≡_, ap, _∙_, sym}
 use mathlib.Core.Bool.{true, false}
@@ -19,10 +19,12 @@ use Rattle.changer.specs.Calls.{enterAnswer, leaveAnswer, simpleAnswer}
 use Rattle.restore.proofs.Restored.{stepped-runs}
 use Rattle.demands.specs.Sequences.{Call, afterCalls}
 use Rattle.demands.specs.Demands.{CanBeLeft, ComesBack, Counted, Kept, Unplugged, Whole}
+use Rattle.demands.specs.Neighbours.{CallsShare, SequenceShares}
 use Rattle.demands.specs.Statements.{AsksSimple, OneAnswer, OthersAlterNeither, RefusedUntouched}
 use Rattle.demands.proofs.Boxes.{kept}
 use Rattle.demands.proofs.Bytes.{call, no-call, replay-no-room, replay-too-long}
 use Rattle.demands.proofs.Counts.{all-counted}
+use Rattle.demands.proofs.Neighbours.{calls-share, sequence-shares}
 use Rattle.demands.proofs.Ordered.{can-be-left, empty-back, fresh-leads, order-back}
 use Rattle.demands.proofs.Others.{others}
 use Rattle.demands.proofs.Refused.{applied-untouched, apply-untouched, asked-untouched, restore-untouched, steps-stay, steps-untouched, whole-untouched, written-nothing}
@@ -105,6 +107,15 @@ box-is-unplugged = unplugged
 -- and so do the two entries: dimecandle_unplug of a state's words, and dimecandle_call of a request with that state
 pub entries-agree : (request state : List ℕ) (x : ℕ) → AsksSimple request state x → OneAnswer request state x
 entries-agree = one-answer
+
+-- Document 02, i): "For any accepted `simple`, enter or leave .. each quorum of the configuration before has a box in common with each quorum after
+-- it": "from a state in order", and from any other.
+pub neighbours-share : (t : Tracker) → CallsShare t
+neighbours-share = calls-share
+
+-- Document 02, i): "This is to hold at each step of any sequence, restore's own steps included."
+pub neighbours-share-throughout : (t : Tracker) → inOrderOf t ≡ true → (cs : List Call) → SequenceShares t cs
+neighbours-share-throughout = sequence-shares
 
 -- Document 01: "That any two results allowed by it are equal is itself proved".
 pub settled : Settled

@@ -1,4 +1,6 @@
 pub mod Sequences
 pub mod Demands
 pub mod Statements
+pub mod Neighbours
 pub mod Wrong
+pub mod WrongNeighbours

@@ -22,10 +22,10 @@ use Rattle.rules.specs.Boxes.{Box, Found, absent, boxOf, entered, events, found
 use Rattle.rules.specs.Rows.{conf, lists, new, of, old, olds}
 
 -- voters (1), learners (2); voters (1 2 3)
-abbrev s12 : State
+abbrev pub s12 : State
 s12 = of (olds (1 ∷ 2 ∷ [])) (conf (1 ∷ []) [] (2 ∷ []) [])
 
-abbrev s123 : State
+abbrev pub s123 : State
 s123 = of (olds (1 ∷ 2 ∷ 3 ∷ [])) (conf (1 ∷ 2 ∷ 3 ∷ []) [] [] [])
 
 abbrev box : Standing → ℕ → Box
