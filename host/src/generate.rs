@@ -293,15 +293,14 @@ pub fn conf_state(random: &mut Random, ids: &[u64]) -> ConfState {
 }
 
 /// Lists that a configuration is written out as, each shuffled, of a state in order or of one with ids of two roles: mostly accepted by
-/// `restore`.
+/// `restore`. Of more than 64 ids a list can be too long.
 fn written(random: &mut Random, ids: &[u64]) -> ConfState {
     let make = if random.one_in(8) { two_roles } else { in_order };
     let conf = make(random, ids).conf;
     let mut lists = ConfState::zero();
     let [incoming, outgoing, learners, staged] = conf.sets().map(|set| *set);
     for (to, mut from) in lists.lists_mut().into_iter().zip([incoming, learners, outgoing, staged]) {
-        let count = from.count as usize;
-        for place in 1..count {
+        for place in 1..from.used().len() {
             from.ids.swap(place, random.below(place + 1));
         }
         *to = from;
