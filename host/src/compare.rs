@@ -55,6 +55,16 @@ pub struct Failure {
 
 pub type Compared = Result<(), Box<Failure>>;
 
+/// Steps held against document 02, i).
+#[derive(Clone, Copy, Default)]
+pub struct Steps {
+    /// of `simple`, of `enter_joint` and of `leave_joint`: all, and those with a quorum before and after; the others have none before
+    pub held: [[u64; 2]; 3],
+    /// those of few ids, held plainly too, and how many pairs of quorums they have
+    pub plainly: u64,
+    pub pairs: u64,
+}
+
 /// Said where it is the Rust and the paper that differ.
 const AS_THE_PAPER: &str = "\nthe model of the paper answers as the subject does";
 
@@ -75,6 +85,7 @@ pub struct Comparison<'a> {
     pub other_fault: u64,
     /// how often the paper gave each number
     pub numbers: [u64; 21],
+    pub steps: Steps,
 }
 
 impl<'a> Comparison<'a> {
@@ -89,6 +100,7 @@ impl<'a> Comparison<'a> {
             accepted: 0,
             other_fault: 0,
             numbers: [0; 21],
+            steps: Steps::default(),
         }
     }
 

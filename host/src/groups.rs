@@ -5,7 +5,9 @@ mod bytes;
 mod examples;
 mod idle;
 mod limits;
+mod neighbours;
 pub mod order;
+mod quorums;
 mod random;
 mod restores;
 pub mod scripts;
@@ -43,6 +45,8 @@ pub enum Entry {
     Replay,
     /// those of libcalls.a through dimecandle.rs: always the linked ones
     Wrapper,
+    /// none: the group is about what other groups rest on, and asks nothing of the subject
+    None,
 }
 
 pub struct Group {
@@ -52,7 +56,7 @@ pub struct Group {
 }
 
 #[rustfmt::skip]
-pub const GROUPS: [Group; 37] = [
+pub const GROUPS: [Group; 43] = [
     Group { name: "calls: the examples of document 01", entry: Entry::Call, run: examples::examples },
     Group { name: "calls: every state over two ids, every list of up to two changes", entry: Entry::Call, run: states::two_ids },
     Group { name: "calls: every state over three ids, every single change", entry: Entry::Call, run: states::three_ids },
@@ -74,6 +78,12 @@ pub const GROUPS: [Group; 37] = [
     Group { name: "idle entries: the Rust's prefixes plainly and with repairs", entry: Entry::Call, run: idle::both_ways },
     Group { name: "in order: every state over two and three ids, left, written out and restored", entry: Entry::Call, run: order::small },
     Group { name: "in order: random states, left, written out and restored", entry: Entry::Call, run: order::random },
+    Group { name: "neighbours: quorums by hand", entry: Entry::None, run: quorums::by_hand },
+    Group { name: "neighbours: wrong rules and wrong quorums break the sentence", entry: Entry::None, run: quorums::broken },
+    Group { name: "neighbours: every state in order over two and three ids, every list of up to two changes", entry: Entry::Call, run: neighbours::small },
+    Group { name: "neighbours: random states in order of every size, one voter changed, a rack swapped", entry: Entry::Call, run: neighbours::random },
+    Group { name: "neighbours: small restores to fresh, by their own steps", entry: Entry::Call, run: neighbours::restores },
+    Group { name: "neighbours: random sequences, restores by their own steps", entry: Entry::Call, run: neighbours::sequences },
     Group { name: "bytes: lengths, unknown calls, words that no field can hold", entry: Entry::Call, run: bytes::bytes },
     Group { name: "unplug: every state over two ids, every id", entry: Entry::Unplug, run: unplug::two_ids },
     Group { name: "unplug: every state over three ids", entry: Entry::Unplug, run: unplug::three_ids },

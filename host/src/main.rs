@@ -21,6 +21,8 @@ mod model;
 #[cfg(rust_text)]
 mod oracle;
 #[cfg(rust_text)]
+mod quorum;
+#[cfg(rust_text)]
 mod random;
 #[cfg(rust_text)]
 mod run;

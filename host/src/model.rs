@@ -10,7 +10,7 @@ mod values;
 mod wrong;
 
 pub use rules::{Accepted, Answer, Change, Kind};
-pub use values::{read_log, write_log, Conf, ConfState, Entry, Refusal, State};
+pub use values::{read_log, write_log, Conf, ConfState, Entry, Refusal, Set, State};
 pub use wrong::Wrong;
 
 use crate::script::{Line, Machine, Run};

@@ -1,6 +1,6 @@
 //! The command line, and the run of the comparison.
 
-use crate::compare::{Comparison, Failure};
+use crate::compare::{Comparison, Failure, Steps};
 use crate::groups::{Entry, Group, Size, GROUPS};
 use crate::model::Model;
 use crate::oracle::Entries;
@@ -90,6 +90,7 @@ fn missing(entry: Entry) -> &'static str {
     match entry {
         Entry::Call | Entry::Unplug | Entry::Wrapper => CALLS_MISSING,
         Entry::Replay => LISTING_MISSING,
+        Entry::None => "",
     }
 }
 
@@ -122,6 +123,7 @@ fn compare(options: &Options) -> ExitCode {
             failed += 1;
         }
     }
+    say_steps(&comparison.steps);
     if options.only.is_none() && all_run {
         let met = every_number_met(&comparison);
         (passed, failed) = (passed + u64::from(met), failed + u64::from(!met));
@@ -143,9 +145,12 @@ fn run_group(comparison: &mut Comparison, group: &Group, options: &Options) -> b
     match result {
         Ok(()) => {
             let (rust, accepted) = (comparison.with_rust, comparison.accepted);
-            let counted = matches!(group.entry, Entry::Call | Entry::Unplug);
-            let accepted = if counted { format!(", {accepted} accepted") } else { String::new() };
-            println!("passed  {}: {inputs} inputs, {rust} with the Rust{accepted}, {seconds:.1} s", group.name);
+            let counts = match group.entry {
+                Entry::Call | Entry::Unplug => format!("{inputs} inputs, {rust} with the Rust, {accepted} accepted"),
+                Entry::Replay | Entry::Wrapper => format!("{inputs} inputs, {rust} with the Rust"),
+                Entry::None => "nothing asked of the subject".to_string(),
+            };
+            println!("passed  {}: {counts}, {seconds:.1} s", group.name);
             true
         }
         Err(failure) => {
@@ -162,6 +167,17 @@ fn report(comparison: &mut Comparison, failure: Failure) {
     let (input, difference) = smallest(comparison, failure.input, against);
     println!("{}", show::input(&input));
     println!("{}", difference.unwrap_or(failure.difference).what);
+}
+
+/// Where groups/neighbours.rs ran.
+fn say_steps(Steps { held, plainly, pairs }: &Steps) {
+    let [all, with_quorums] = [0, 1].map(|which| held.iter().map(|of_call| of_call[which]).sum::<u64>());
+    if all > 0 {
+        println!(
+            "steps of which any two quorums, before and after, share a voter: {all}, {with_quorums} of them with a quorum before"
+        );
+        println!("those looked at plainly too: {plainly}, with {pairs} pairs of quorums");
+    }
 }
 
 /// "Number 13 is kept for the Rust's message but never given".

@@ -2,6 +2,7 @@
 
 use crate::calls::{self, Takes};
 use crate::compare::Input;
+use crate::model::Set;
 use crate::script::RECORD;
 use crate::words::{Block, Conf, ConfState, Entry, Ids, List, Log, Record, Reply, Request, State, Verdict, REMOVE};
 use std::fmt::Write;
@@ -105,6 +106,10 @@ fn log(log: &Log) -> String {
 
 fn entry(entry: &Entry) -> String {
     format!("{}{}", if entry.kind == REMOVE { '-' } else { '+' }, entry.id)
+}
+
+pub fn group(ids: &Set) -> String {
+    spaced(ids.iter().map(u64::to_string))
 }
 
 fn spaced(items: impl Iterator<Item = String>) -> String {

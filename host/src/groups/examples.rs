@@ -188,7 +188,7 @@ fn ask_restore(request: &mut Request, call: u64, lists: &Lists) {
 }
 
 /// Takes over what was accepted.
-fn follow(comparison: &mut Comparison, request: &mut Request, reply: &Reply) -> Compared {
+pub fn follow(comparison: &mut Comparison, request: &mut Request, reply: &Reply) -> Compared {
     if matches!(request.call, SIMPLE | ENTER_JOINT | LEAVE_JOINT) && reply.number == 0 {
         (request.conf, request.log) = (reply.state.conf, reply.log);
         request.call = APPLY_CONF;

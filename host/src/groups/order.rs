@@ -152,6 +152,6 @@ fn holds(request: &Request, as_it_should: bool, what: impl FnOnce() -> String) -
     Err(failure(Input::State(Box::new(*request)), what()))
 }
 
-fn failure(input: Input, what: String) -> Box<Failure> {
+pub fn failure(input: Input, what: String) -> Box<Failure> {
     Box::new(Failure { input, difference: Difference { against: Against::Paper, what } })
 }

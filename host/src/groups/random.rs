@@ -82,13 +82,18 @@ fn restored(comparison: &mut Comparison, random: &mut Random, ids: &[u64], reque
     Ok(())
 }
 
-/// Another call, and the answer applied.
-fn answered(comparison: &mut Comparison, random: &mut Random, ids: &[u64], request: &mut Request) -> Compared {
+/// A leave, mostly, of a joint state; else a list, mostly short.
+pub fn some_step(random: &mut Random, ids: &[u64], request: &mut Request) {
     let joint = request.state.conf.outgoing.count != 0;
     request.call = if joint && !random.one_in(10) { LEAVE_JOINT } else { random.pick(&[SIMPLE, SIMPLE, ENTER_JOINT]) };
     let length = if random.one_in(2) { 1 } else { random.between(0, 6) };
     request.list = List::of(&generate::changes(random, ids, length));
     request.auto_leave = random.flag();
+}
+
+/// Another call, and the answer applied.
+fn answered(comparison: &mut Comparison, random: &mut Random, ids: &[u64], request: &mut Request) -> Compared {
+    some_step(random, ids, request);
     comparison.call(request)?;
 
     let answer = comparison.expected(request).0;

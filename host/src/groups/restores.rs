@@ -10,7 +10,7 @@ use crate::show;
 use crate::words::{Ids, Reply, Request, State};
 
 /// Every choice of four of these lists.
-fn each_lists(lists: &[Ids], request: &mut Request, visit: Visit) -> Compared {
+pub fn each_lists(lists: &[Ids], request: &mut Request, visit: Visit) -> Compared {
     let count = lists.len();
     for choice in 0..count.pow(4) {
         for (place, to) in request.conf_state.lists_mut().into_iter().enumerate() {
@@ -21,7 +21,7 @@ fn each_lists(lists: &[Ids], request: &mut Request, visit: Visit) -> Compared {
     Ok(())
 }
 
-fn ids_lists(ids: &[u64], longest: usize) -> Vec<Ids> {
+pub fn ids_lists(ids: &[u64], longest: usize) -> Vec<Ids> {
     lists_of(ids, longest).iter().map(|list| Ids::of(list)).collect()
 }
 
@@ -71,7 +71,8 @@ pub fn both_names(comparison: &mut Comparison, request: &mut Request) -> Result<
     }
 }
 
-fn asked(comparison: &mut Comparison, call: u64, request: &mut Request) -> Result<Box<Reply>, Box<Failure>> {
+/// The answer of all sides.
+pub fn asked(comparison: &mut Comparison, call: u64, request: &mut Request) -> Result<Box<Reply>, Box<Failure>> {
     request.call = call;
     comparison.call(request)?;
     Ok(Box::new(*comparison.answer()))

@@ -115,6 +115,11 @@ pub fn passes(request: &Request) -> bool {
     State::read(&request.state).is_some_and(|state| Model::PAPER.checked(&state).is_ok())
 }
 
+/// The state that the words hold, if it is in order.
+pub fn read_in_order(words: &words::State) -> Option<State> {
+    State::read(words).filter(|state| Model::PAPER.in_order(state))
+}
+
 pub fn two_ids(comparison: &mut Comparison, _: &mut Random, size: Size) -> Compared {
     let changes = changes_of(&[0, 1, 2, 3]);
     let (lists, short) = (lists_of(&changes, 2), lists_of(&changes, 1));

@@ -2,11 +2,10 @@
 //! small groups and in a share of the random ones also by the subject's own `simple`. And what the entry returns: docs/EMBEDDING.md.
 
 use super::bytes::{narrow_words_of_state, Returned};
-use super::states::{each_state, passes};
+use super::states::{each_state, passes, read_in_order};
 use super::Size;
 use crate::compare::{Against, Compared, Comparison, Difference, Failure, Input};
 use crate::generate::{self, MakeState};
-use crate::model::{self, Model};
 use crate::random::Random;
 use crate::words::{Block, Request, State, STATE_WORDS, VERDICT_WORDS};
 
@@ -36,7 +35,7 @@ fn small(comparison: &mut Comparison, ids: &[u64], every: impl Fn(&Request) -> b
     asked.dedup();
     let mut met = [0; 3];
     each_state(ids, &mut Request::new(0), &mut |request| {
-        let in_order = model::State::read(&request.state).is_some_and(|state| Model::PAPER.in_order(&state));
+        let in_order = read_in_order(&request.state).is_some();
         let count = if every(request) { asked.len() } else { 2 };
         for &id in asked.iter().cycle().skip(comparison.inputs as usize % asked.len()).take(count) {
             let [number, _] = comparison.unplug(&request.state, id, true)?;

@@ -349,7 +349,8 @@ impl Model {
         } else {
             work.conf.incoming.symmetric_difference(&state.conf.incoming).count()
         };
-        refuse(difference >= 2, 18)?;
+        let most = if self.has(Wrong::TwoVotersChange) { 2 } else { 1 };
+        refuse(difference > most, 18)?;
         self.finish(work)
     }
 
@@ -358,7 +359,9 @@ impl Model {
         self.admit(state, state.conf.joint(), 4)?;
         refuse(state.conf.incoming.is_empty(), 15)?;
         let mut conf = state.conf.clone();
-        conf.outgoing = conf.incoming.clone();
+        if !self.has(Wrong::OldVotersNotKept) {
+            conf.outgoing = conf.incoming.clone();
+        }
         let mut work = self.changes(state, conf, list)?;
         work.conf.auto_leave = auto_leave;
         self.finish(work)

@@ -1,6 +1,6 @@
 //! Rules that are wrong on purpose. Document 01, "Errors a porter would make", and others of the kind, also for the count of document 02's
-//! b), the question of its d), the two restores of its g) and the part that its h) adds to in order. Each is one test in model/rules.rs or
-//! model/entries.rs.
+//! b), the question of its d), the two restores of its g), the part that its h) adds to in order and what its i) rests on. Each is one test
+//! in model/rules.rs or model/entries.rs.
 
 /// One wrong rule; `sentence` says which.
 #[derive(Clone, Copy, Debug, PartialEq, Eq)]
@@ -48,12 +48,14 @@ pub enum Wrong {
     UnplugOfNoVoter,
     UnplugZeroIsABox,
     UnplugWithoutTheCheck,
+    TwoVotersChange,
+    OldVotersNotKept,
 }
 
 use Wrong::*;
 
 impl Wrong {
-    pub const ALL: [Wrong; 43] = [
+    pub const ALL: [Wrong; 45] = [
         CountsChanges,
         TwelveAsTheTextSays,
         CancelsInTheLog,
@@ -97,6 +99,8 @@ impl Wrong {
         UnplugOfNoVoter,
         UnplugZeroIsABox,
         UnplugWithoutTheCheck,
+        TwoVotersChange,
+        OldVotersNotKept,
     ];
 
     pub fn sentence(self) -> &'static str {
@@ -144,6 +148,8 @@ impl Wrong {
             UnplugOfNoVoter => "unplug accepts every box that is no incoming voter, also where there is none at all",
             UnplugZeroIsABox => "unplug takes id 0 for a box",
             UnplugWithoutTheCheck => "unplug answers every state as one in order, also where the check fails",
+            TwoVotersChange => "simple lets two voters change, and 18 comes at three",
+            OldVotersNotKept => "entering does not keep the old voters as outgoing",
         }
     }
 

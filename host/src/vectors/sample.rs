@@ -2,7 +2,7 @@
 
 use crate::compare::Comparison;
 use crate::groups::scripts::{longest_listing, script};
-use crate::groups::{Entry, Size, GROUPS};
+use crate::groups::{Entry, Group, Size, GROUPS};
 use crate::model::Model;
 use crate::random::Random;
 use crate::script::LONGEST_SCRIPT;
@@ -26,7 +26,9 @@ const SCRIPTS_OF_A_GROUP: usize = 10;
 
 pub fn take() -> Taken {
     let mut taken = Taken { calls: vec![], scripts: vec![] };
-    for group in GROUPS.iter().filter(|group| matches!(group.entry, Entry::Call | Entry::Replay)) {
+    let neighbours = |group: &&Group| group.name.starts_with("neighbours");
+    let asks = |group: &&Group| matches!(group.entry, Entry::Call | Entry::Replay);
+    for group in GROUPS.iter().filter(|group| asks(group) && !neighbours(group)) {
         let of_a_kind = if group.name.contains("examples") { EXAMPLES } else { CALLS_OF_A_KIND };
         let recorder = Recorder { of_a_kind, chosen: RefCell::new(Chosen::new(group.name)) };
         let mut random = Random::new(1, group.name);
