@@ -55,11 +55,14 @@ pub struct Failure {
 
 pub type Compared = Result<(), Box<Failure>>;
 
+/// Of `simple`, of `enter_joint` and of `leave_joint`: how many steps, and how many with a quorum before and after. The others have none
+/// before.
+pub type Held = [[u64; 2]; 3];
+
 /// Steps held against document 02, i).
 #[derive(Clone, Copy, Default)]
 pub struct Steps {
-    /// of `simple`, of `enter_joint` and of `leave_joint`: all, and those with a quorum before and after; the others have none before
-    pub held: [[u64; 2]; 3],
+    pub held: Held,
     /// those of few ids, held plainly too, and how many pairs of quorums they have
     pub plainly: u64,
     pub pairs: u64,

@@ -1,6 +1,6 @@
 //! Quorums, and whether two configurations have quorums apart from each other. Document 02, i): "A quorum is a group of ids with more than
-//! half of incoming and, when joint, more than half of outgoing, as the Raft dissertation's section 4.3 has it." No group has more than half
-//! of an empty set, so a configuration without an incoming voter has no quorum.
+//! half of incoming and, when joint, more than half of outgoing, as the Raft dissertation's section 4.3 has it." No group has more than
+//! half of an empty set, so a configuration without an incoming voter has no quorum.
 
 use crate::model::{Conf, Set};
 use std::array::from_fn;
@@ -39,9 +39,9 @@ impl Definition {
 
     /// Two quorums, one of each configuration, that have no id in common, if there are any: of any size, and none is missed.
     ///
-    /// An id more never makes a quorum less of one. So only those pairs are looked at in which each voter is in one of the two groups: in the
-    /// first if it does not vote after, in the second if it does not vote before. Voters that are in the same ones of the four voter sets
-    /// are alike: how many of them the first group has is all that matters.
+    /// An id more never makes a quorum less of one. So only those pairs are looked at in which each voter is in one of the two groups: in
+    /// the first if it does not vote after, in the second if it does not vote before. Voters that are in the same ones of the four voter
+    /// sets are alike: how many of them the first group has is all that matters.
     pub fn apart(self, before: &Conf, after: &Conf) -> Option<Pair> {
         let classes = classes(before, after);
         let mut ways = Ways::from([([0; 4], vec![])]);
@@ -77,7 +77,7 @@ impl Definition {
 }
 
 /// Every id of two configurations, and one that is nowhere.
-pub fn ids(before: &Conf, after: &Conf) -> Set {
+fn ids(before: &Conf, after: &Conf) -> Set {
     let mut ids: Set = before.members().union(&after.members()).copied().collect();
     ids.extend((1..).find(|id| !ids.contains(id)));
     ids
@@ -87,6 +87,23 @@ pub fn ids(before: &Conf, after: &Conf) -> Set {
 pub fn groups_of(ids: &Set) -> Vec<Set> {
     let chosen = |choice: usize| ids.iter().enumerate().filter(move |(place, _)| choice >> place & 1 == 1).map(|(_, id)| *id);
     (0..1 << ids.len()).map(|choice| chosen(choice).collect()).collect()
+}
+
+/// How many groups of so many ids, all voters among them, are quorums, counted without looking at any: for each number of those who are in
+/// both voter sets, the choices of them, times those of enough others of incoming to make more than half of it, times when joint those of
+/// enough others of outgoing; and with each any choice of the ids that do not vote.
+pub fn how_many(conf: &Conf, ids: usize) -> usize {
+    let both = conf.incoming.intersection(&conf.outgoing).count();
+    let at_least = |least: usize, of: usize| -> usize { (least..=of).map(|count| choices(of, count)).sum() };
+    let enough = |set: &Set, had: usize| at_least((set.len() / 2 + 1).saturating_sub(had), set.len() - both);
+    let outgoing = |had: usize| if conf.joint() { enough(&conf.outgoing, had) } else { 1 };
+    let quorums: usize = (0..=both).map(|had| choices(both, had) * enough(&conf.incoming, had) * outgoing(had)).sum();
+    quorums << (ids - (conf.incoming.len() + conf.outgoing.len() - both))
+}
+
+/// How many choices of so many there are.
+fn choices(of: usize, count: usize) -> usize {
+    (0..count).fold(1, |ways, place| ways * (of - place) / (place + 1))
 }
 
 // ** Voters that are alike

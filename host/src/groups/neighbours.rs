@@ -7,16 +7,15 @@
 
 use super::examples::{add, follow, learner, remove};
 use super::order::failure;
-use super::quorums::how_many_quorums;
 use super::random::some_step;
 use super::restores::{asked, each_lists, ids_lists};
 use super::states::{changes_of, each_state, lists_of, read_in_order, Visit};
 use super::Size;
 use crate::calls::{numbered, ENTER_JOINT, LEAVE_JOINT, RESTORE, RESTORE_STEP_BY_STEP, SIMPLE};
-use crate::compare::{Compared, Comparison, Failure, Input, Steps};
+use crate::compare::{Compared, Comparison, Failure, Held, Input, Steps};
 use crate::generate;
 use crate::model::{Conf, Set};
-use crate::quorum::{self, Definition, Pair};
+use crate::quorum::{how_many, Definition, Pair};
 use crate::random::Random;
 use crate::show;
 use crate::words::{
@@ -24,9 +23,19 @@ use crate::words::{
 };
 use std::array::from_fn;
 
+pub fn holds(as_it_should: bool, input: impl FnOnce() -> String, what: impl FnOnce() -> String) -> Compared {
+    if as_it_should {
+        return Ok(());
+    }
+    Err(failure(Input::Other(input()), what()))
+}
+
+/// What a `Held` counts.
+const HELD: &str = "steps of simple, enter and leave, and those of each with a quorum before";
+
 // ** One step
 
-/// Makes one call. An accepted answer is held against the sentence. The answer of all sides.
+/// Makes one call, and holds an accepted answer against the sentence. The answer of all sides.
 fn step(comparison: &mut Comparison, request: &mut Request) -> Result<Box<Reply>, Box<Failure>> {
     let reply = asked(comparison, request.call, request)?;
     if reply.number == 0 {
@@ -35,7 +44,7 @@ fn step(comparison: &mut Comparison, request: &mut Request) -> Result<Box<Reply>
     Ok(reply)
 }
 
-/// The same, and what was accepted is applied. Number and id.
+/// The same, and an accepted answer is applied. Number and id.
 fn taken(comparison: &mut Comparison, request: &mut Request) -> Result<Verdict, Box<Failure>> {
     let reply = step(comparison, request)?;
     follow(comparison, request, &reply)?;
@@ -74,12 +83,12 @@ pub fn judged(before: &Conf, after: &Conf) -> Result<Option<usize>, String> {
     if let Some(pair) = Definition::Paper.apart(before, after) {
         return Err(have_none_in_common(&pair));
     }
-    let ids = quorum::ids(before, after).len();
+    let ids = before.members().union(&after.members()).count() + 1;
     if ids > FEW {
         return Ok(None);
     }
     let pairs = Definition::Paper.apart_plainly(before, after).map_err(|pair| have_none_in_common(&pair))?;
-    let expected = how_many_quorums(before, ids) * how_many_quorums(after, ids);
+    let expected = how_many(before, ids) * how_many(after, ids);
     if pairs != expected {
         return Err(format!("{pairs} pairs of quorums, expected {expected}"));
     }
@@ -132,88 +141,96 @@ pub fn small(comparison: &mut Comparison, _: &mut Random, size: Size) -> Compare
 }
 
 /// Whether as many steps were held since then as were worked by hand, and each of them plainly too.
-fn met(comparison: &Comparison, before: &Steps, expected: [[u64; 2]; 3], input: &str) -> Compared {
+fn met(comparison: &Comparison, before: &Steps, expected: Held, input: &str) -> Compared {
     let (met, plainly) = (held_since(comparison, before), comparison.steps.plainly - before.plainly);
     let all: u64 = expected.iter().map(|[all, _]| all).sum();
-    if met == expected && plainly == all {
-        return Ok(());
-    }
-    let of_each = "steps of simple, enter and leave, and those of each with a quorum before";
-    let what = format!("{of_each}: {met:?}, expected {expected:?}; {plainly} plainly, expected {all}");
-    Err(failure(Input::Other(input.to_string()), what))
+    let what = || format!("{HELD}: {met:?}, expected {expected:?}; {plainly} plainly, expected {all}");
+    holds(met == expected && plainly == all, || input.to_string(), what)
 }
 
-fn held_since(comparison: &Comparison, before: &Steps) -> [[u64; 2]; 3] {
+fn held_since(comparison: &Comparison, before: &Steps) -> Held {
     from_fn(|call| from_fn(|which| comparison.steps.held[call][which] - before.held[call][which]))
 }
 
 /// How many of these calls are accepted, of `simple`, of `enter_joint` and of `leave_joint`, and how many of them from a state with an
 /// incoming voter: worked by hand from the standings.
 ///
-/// A box is none, I or L: of three standings two are without a vote. Add gives it one; remove and learner leave it without. Of two changes of
-/// one box the second decides, whatever the first. So a list is empty; or one change, or the same after one of three others; or it is about
-/// two boxes, or a box and the new one, in either order. 17 refuses what leaves no voter, 15 an enter from none, 18 a `simple` that changes
-/// two votes. Of the 9 standings and kinds of a box 2 give it a vote and 2 take its vote, 6 are without one before, 6 after, 4 before and
-/// after; of the 3 kinds of the new one 1 gives it a vote. A joint state has either flag, and the standings O, IO and OS too.
-fn how_many_steps(boxes: u32) -> [[u64; 2]; 3] {
+/// A box is none, I or L, so two of three standings are without a vote. Add gives it one, remove and learner leave it without; of two
+/// changes of one box the second decides, whatever the first. A list is empty, or one change, alone or after any of three of the same box,
+/// or it is about two boxes in either order, the new one perhaps among them. 17 refuses what leaves no voter, 15 an enter without one, 18
+/// a `simple` that changes two votes. Of the 9 standings and kinds of a box 2 give it a vote and 2 take it, 6 are without one before, 6
+/// after, and 4 both times; of the 3 kinds of the new one 1 gives it a vote. A joint state has either flag, and boxes that are O, IO or
+/// OS.
+fn how_many_steps(boxes: u32) -> Held {
     let n = u64::from(boxes);
     // states over so many boxes less: all, without a voter, with one
     let of = |less: u32| 3u64.pow(boxes - less);
     let without = |less: u32| 2u64.pow(boxes - less);
     let with = |less: u32| of(less) - without(less);
-    // one change and its repeats, of any box or the new one; those that take a vote or none leave another voter
-    let (add, others) = (4 * (n + 1), 4 * 2 * (n * 3 * with(1) + with(0)));
+    // lists about one box: an add; a remove or learner, where another one votes
+    let (add, other) = (4 * (n + 1), 4 * 2 * (3 * n * with(1) + with(0)));
+    // lists about two boxes; about one and the new one
     let (two, one_new) = (n * (n - 1), 2 * n);
 
+    // all but those that change two votes and those that leave none
     let of_two = (81 - 4 * 4) * of(2) - (6 * 6 - 2 * 2) * without(2);
     let of_new = (27 - 4) * of(1) - 2 * 6 * without(1);
-    let simple = with(0) + add * of(0) + others + two * of_two + one_new * of_new;
-    let from_none = add * without(0) + two * 2 * 2 * 4 * without(2) + one_new * (4 + 2 * 2) * without(1);
+    let simple = with(0) + add * of(0) + other + two * of_two + one_new * of_new;
+    // one of the two is given a vote, the other has none both times
+    let from_none = add * without(0) + two * (2 * 4 + 4 * 2) * without(2) + one_new * (4 + 2 * 2) * without(1);
 
+    // all but those without a vote before or after
     let of_two = 81 * of(2) - (6 * 6 + 6 * 6 - 4 * 4) * without(2);
     let of_new = 27 * of(1) - (3 * 6 + 2 * 6 - 2 * 4) * without(1);
-    let enter = with(0) + add * with(0) + others + two * of_two + one_new * of_new;
+    let enter = with(0) + add * with(0) + other + two * of_two + one_new * of_new;
 
     let leave = 2 * (6u64.pow(boxes) - of(0));
-    let left_by_none = 2 * (4u64.pow(boxes) - without(0));
-    [[simple, simple - from_none], [enter, enter], [leave, leave - left_by_none]]
+    let without_incoming = 2 * (4u64.pow(boxes) - without(0));
+    [[simple, simple - from_none], [enter, enter], [leave, leave - without_incoming]]
 }
 
 // ** Random states
 
-/// States in order of every size: left if joint; then twice one voter changed, a rack swapped, and left.
+/// States in order of every size.
 pub fn random(comparison: &mut Comparison, random: &mut Random, size: Size) -> Compared {
-    let mut request = Request::new(0);
-    for _ in 0..size.pick(1, 40, 400) {
+    let (before, rounds) = (comparison.steps, size.pick(1, 40, 400));
+    for _ in 0..rounds {
         for boxes in 0..=CAPACITY {
-            let ids = generate::ids(random, 2 * CAPACITY);
-            let from = random.between(0, CAPACITY);
-            request.state = generate::in_order(random, &ids[from..from + boxes]);
-            request.next_idx = random.number();
-            if request.state.conf.outgoing.count != 0 {
-                accepted(comparison, &mut request, LEAVE_JOINT, &[])?;
-            }
-            for _ in 0..2 {
-                let list = one_voter(random, &request.state, &ids);
-                accepted(comparison, &mut request, SIMPLE, &list)?;
-            }
-            let list = rack_swap(random, &request.state, &ids);
-            request.auto_leave = random.flag();
-            accepted(comparison, &mut request, ENTER_JOINT, &list)?;
-            accepted(comparison, &mut request, LEAVE_JOINT, &[])?;
+            changed_and_swapped(comparison, random, boxes)?;
         }
     }
-    Ok(())
+    let states = rounds * (CAPACITY as u64 + 1);
+    let met = held_since(comparison, &before);
+    let as_it_should = met[0][0] == 2 * states && met[1] == [states; 2] && met[2][0] >= states;
+    holds(as_it_should, || format!("{states} random states"), || format!("{HELD}: {met:?}"))
+}
+
+/// A random state of so many boxes is left if joint; then twice one voter is changed, a rack swapped, and it is left.
+fn changed_and_swapped(comparison: &mut Comparison, random: &mut Random, boxes: usize) -> Compared {
+    let mut request = Request::new(0);
+    let ids = generate::ids(random, 2 * CAPACITY);
+    let from = random.between(0, CAPACITY);
+    request.state = generate::in_order(random, &ids[from..from + boxes]);
+    request.next_idx = random.number();
+    if request.state.conf.outgoing.count != 0 {
+        accepted(comparison, &mut request, LEAVE_JOINT, &[])?;
+    }
+    for _ in 0..2 {
+        let list = one_voter(random, &request.state, &ids);
+        accepted(comparison, &mut request, SIMPLE, &list)?;
+    }
+    let list = rack_swap(random, &request.state, &ids);
+    request.auto_leave = random.flag();
+    accepted(comparison, &mut request, ENTER_JOINT, &list)?;
+    accepted(comparison, &mut request, LEAVE_JOINT, &[])
 }
 
 /// A step that was made to be accepted: it has to be, or the sentence would be held against fewer than it seems.
 fn accepted(comparison: &mut Comparison, request: &mut Request, call: u64, list: &[Change]) -> Compared {
     request.call = call;
     request.list.set(list);
-    match taken(comparison, request)? {
-        [0, _] => Ok(()),
-        verdict => Err(failure(Input::Other(show::request(request)), format!("number and id {verdict:?}, expected acceptance"))),
-    }
+    let verdict = taken(comparison, request)?;
+    holds(verdict == [0, 0], || show::request(request), || format!("it was made to be accepted, and gives {verdict:?}"))
 }
 
 /// Of a state that is not joint those who can become voters: its learners, and as many new ones of these ids as there is room for.
@@ -249,9 +266,9 @@ fn rack_swap(random: &mut Random, state: &State, ids: &[u64]) -> Vec<Change> {
 
 // ** Restores and sequences
 
-/// The steps of a restore, each a call and its list. Document 01: "No outgoing: each voter, learner and staged id in list order as a `simple`
-/// of its own (AddNode for voters, AddLearnerNode for the others) ... Otherwise one `simple` AddNode per outgoing id, then one `enter_joint`
-/// with: remove each outgoing, add each voter, add-learner each learner, then each staged."
+/// The steps of a restore, each a call and its list. Document 01: "No outgoing: each voter, learner and staged id in list order as a
+/// `simple` of its own (AddNode for voters, AddLearnerNode for the others) ... Otherwise one `simple` AddNode per outgoing id, then one
+/// `enter_joint` with: remove each outgoing, add each voter, add-learner each learner, then each staged."
 fn steps_of(lists: &ConfState) -> Vec<(u64, Vec<Change>)> {
     let of = |kind: u64, list: &Ids| -> Vec<Change> { list.used().iter().map(|&id| (id, kind)).collect() };
     let singly = |changes: Vec<Change>| -> Vec<_> { changes.into_iter().map(|change| (SIMPLE, vec![change])).collect() };
@@ -293,9 +310,9 @@ fn walked(comparison: &mut Comparison, restore: &mut Request) -> Compared {
     Ok(())
 }
 
-/// Small restores to fresh, either flag. Of four lists of at most one of two ids the steps accepted are worked by hand. Nobody outgoing: 14
-/// for each voter named, the first of them nine times. Else the outgoing id is added, 27 times each, and the enter accepted where a voter is
-/// named who is neither a learner nor staged, 8 times each. A first step has no quorum before it.
+/// Small restores to fresh, either flag. Of four lists of at most one of two ids the steps accepted are worked by hand. Nobody outgoing:
+/// 14 for each voter named, the first of them nine times. Else the outgoing id is added, 27 times each, and the enter accepted where a
+/// voter is named who is neither a learner nor staged, 8 times each. A first step has no quorum before it.
 pub fn restores(comparison: &mut Comparison, random: &mut Random, size: Size) -> Compared {
     let before = comparison.steps;
     to_fresh(comparison, random, &ids_lists(&[1, 2], 1))?;
@@ -337,9 +354,6 @@ pub fn sequences(comparison: &mut Comparison, random: &mut Random, size: Size) -
         }
     }
     let met = held_since(comparison, &before);
-    if met.iter().any(|[_, with_quorums]| *with_quorums == 0) {
-        let what = format!("a call was never accepted with a quorum before it: {met:?}");
-        return Err(failure(Input::Other("random sequences".to_string()), what));
-    }
-    Ok(())
+    let each_met = met.iter().all(|[_, with_quorums]| *with_quorums > 0);
+    holds(each_met, || "random sequences".to_string(), || format!("{HELD}: {met:?}"))
 }

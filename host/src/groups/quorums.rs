@@ -2,23 +2,15 @@
 //! definitions. Nothing here is asked of the subject.
 
 use super::examples::{add, remove};
-use super::neighbours::{each_step, judged};
-use super::order::failure;
+use super::neighbours::{each_step, holds, judged};
 use super::Size;
 use crate::calls::{numbered, ENTER_JOINT, SIMPLE};
-use crate::compare::{Compared, Comparison, Failure, Input};
+use crate::compare::{Compared, Comparison, Failure};
 use crate::model::{Conf, Model, Set, Wrong};
-use crate::quorum::{groups_of, Definition, Pair};
+use crate::quorum::{groups_of, how_many, Definition, Pair};
 use crate::random::Random;
 use crate::show;
 use crate::words::{Block, Change, Reply, Request, CAPACITY};
-
-fn holds(as_it_should: bool, input: impl FnOnce() -> String, what: &str) -> Compared {
-    if as_it_should {
-        return Ok(());
-    }
-    Err(failure(Input::Other(input()), what.to_string()))
-}
 
 fn voters(conf: &Conf) -> String {
     format!("{}&&{}", show::group(&conf.incoming), show::group(&conf.outgoing))
@@ -45,8 +37,8 @@ fn counted() -> Compared {
     let groups = groups_of(&Set::from([1, 2, 3, 4, 5]));
     for conf in confs(4) {
         let found = groups.iter().filter(|group| Definition::Paper.is_quorum(group, &conf)).count();
-        let expected = how_many_quorums(&conf, 5);
-        holds(found == expected, || voters(&conf), &format!("{found} quorums among five ids, expected {expected}"))?;
+        let expected = how_many(&conf, 5);
+        holds(found == expected, || voters(&conf), || format!("{found} quorums among five ids, expected {expected}"))?;
     }
     Ok(())
 }
@@ -57,22 +49,6 @@ fn confs(ids: u64) -> Vec<Conf> {
     sets.iter().flat_map(|incoming| sets.iter().map(|outgoing| conf(incoming, outgoing))).collect()
 }
 
-/// How many groups of so many ids, all voters among them, are quorums: with each number of the voters that are in both sets, those with so
-/// many of incoming alone as make more than half of incoming and, when joint, so many of outgoing alone; and any of the ids that do not vote.
-pub fn how_many_quorums(conf: &Conf, ids: usize) -> usize {
-    let both = conf.incoming.intersection(&conf.outgoing).count();
-    let at_least = |least: usize, of: usize| -> usize { (least..=of).map(|count| choices(of, count)).sum() };
-    let most = |set: &Set, had: usize| at_least((set.len() / 2 + 1).saturating_sub(had), set.len() - both);
-    let outgoing = |had: usize| if conf.joint() { most(&conf.outgoing, had) } else { 1 };
-    let quorums: usize = (0..=both).map(|had| choices(both, had) * most(&conf.incoming, had) * outgoing(had)).sum();
-    quorums << (ids - (conf.incoming.len() + conf.outgoing.len() - both))
-}
-
-/// How many choices of so many there are.
-fn choices(of: usize, count: usize) -> usize {
-    (0..count).fold(1, |ways, place| ways * (of - place) / (place + 1))
-}
-
 /// Whether there are quorums apart, by `apart` and plainly, which have to agree; and those that `apart` finds have to be quorums apart.
 fn apart(definition: Definition, before: &Conf, after: &Conf) -> Result<Option<Pair>, Box<Failure>> {
     let (found, plainly) = (definition.apart(before, after), definition.apart_plainly(before, after).err());
@@ -81,14 +57,14 @@ fn apart(definition: Definition, before: &Conf, after: &Conf) -> Result<Option<P
     };
     let as_it_should = found.is_some() == plainly.is_some() && found.iter().all(are_apart);
     let input = || format!("the voters {} and {}, {definition:?}", voters(before), voters(after));
-    holds(as_it_should, input, &format!("quorums apart: {found:?}, plainly {plainly:?}"))?;
+    holds(as_it_should, input, || format!("quorums apart: {found:?}, plainly {plainly:?}"))?;
     Ok(found)
 }
 
-/// Every pair of configurations with voters among so many ids: how many have quorums apart. By hand, of two ids: the least quorum is (1) in two
-/// configurations, (2) in two, (1 2) in eight, and four have none; apart are (1) and (2), in either order. Of three ids: the least quorum of
-/// one is a single id, as in two configurations for each id, and the other can do without that id: it needs another one alone (24 pairs), the two
-/// others (2 * 60), any two (2 * 12), or another one and any second (2 * 24).
+/// Every pair of configurations with voters among so many ids: how many have quorums apart. By hand, of two ids: the least quorum is (1)
+/// in two configurations, (2) in two, (1 2) in eight, and four have none; apart are (1) and (2), in either order. Of three ids: the least
+/// quorum of one is a single id, as in two configurations for each id, and the other can do without that id: it needs another one alone
+/// (24 pairs), the two others (2 * 60), any two (2 * 12), or another one and any second (2 * 24).
 fn apart_among(ids: u64, expected: usize) -> Compared {
     let confs = confs(ids);
     let mut met = 0;
@@ -98,7 +74,7 @@ fn apart_among(ids: u64, expected: usize) -> Compared {
         }
     }
     let input = || format!("every pair of configurations with voters among {ids} ids");
-    holds(met == expected, input, &format!("{met} pairs have quorums apart, expected {expected}"))
+    holds(met == expected, input, || format!("{met} pairs have quorums apart, expected {expected}"))
 }
 
 /// Random pairs of configurations with voters among five ids.
@@ -131,8 +107,8 @@ fn every_size() -> Compared {
             for (before, after, expected) in cases {
                 let found = (Definition::Paper.apart(&before, &after).is_some(), judged(&before, &after).is_err());
                 let input = || format!("the voters {} and {}", voters(&before), voters(&after));
-                let what = format!("quorums apart, sentence broken: {found:?}, expected both {expected}");
-                holds(found == (expected, expected), input, &what)?;
+                let what = || format!("quorums apart, sentence broken: {found:?}, expected both {expected}");
+                holds(found == (expected, expected), input, what)?;
             }
         }
     }
@@ -141,8 +117,9 @@ fn every_size() -> Compared {
 
 // ** Wrong on purpose
 
-/// A model and a definition, one of them wrong, and the first step that breaks the sentence: it is from voters (1), and the quorums are (1)
-/// and (2). No single change breaks the sentence under the two wrong rules: it takes one voter for another.
+/// A model and a definition, one of them wrong, and the call and list of the first step that breaks the sentence. Each is from voters (1),
+/// and the quorums are (1) and (2). With at least half, (2) is one as soon as it is added. Under the others a voter more or less breaks
+/// nothing: it takes one in the place of another.
 fn wrong_ones() -> [(Model, Definition, u64, Vec<Change>); 4] {
     let one_for_another = || vec![remove(1), add(2)];
     [
@@ -156,24 +133,25 @@ fn wrong_ones() -> [(Model, Definition, u64, Vec<Change>); 4] {
 pub fn broken(_: &mut Comparison, _: &mut Random, _: Size) -> Compared {
     for (model, definition, call, list) in wrong_ones() {
         let found = first_broken(&model, definition)?;
-        let expected = Some((call, list, (Set::from([1]), Set::from([2]))));
-        let what = format!("call, list and quorums {found:?}, expected {expected:?}");
-        holds(found == expected, || "the first step that breaks the sentence".to_string(), &what)?;
+        let (one, two) = (Set::from([1]), Set::from([2]));
+        let expected = Some((voters(&conf(&one, &Set::new())), call, list, (one, two)));
+        let what = || format!("voters, call, list and quorums {found:?}, expected {expected:?}");
+        holds(found == expected, || "the first step that breaks the sentence".to_string(), what)?;
     }
     example_5()?;
     odd_voters(Wrong::TwoVotersChange)?;
     odd_voters(Wrong::OldVotersNotKept)
 }
 
-/// A call, its list, and the quorums apart.
-type Broken = (u64, Vec<Change>, Pair);
+/// The voters before a step, its call and list, and the quorums apart.
+type Broken = (String, u64, Vec<Change>, Pair);
 
 fn first_broken(model: &Model, definition: Definition) -> Result<Option<Broken>, Box<Failure>> {
     let mut first = None;
     each_step(&[1], &mut |request| {
         if let (None, Some((before, after))) = (&first, made(model, request)) {
             let pair = apart(definition, &before, &after)?;
-            first = pair.map(|pair| (request.call, request.list.changes().collect(), pair));
+            first = pair.map(|pair| (voters(&before), request.call, request.list.changes().collect(), pair));
         }
         Ok(())
     })?;
@@ -194,7 +172,7 @@ fn example_5() -> Compared {
     let (before, after) = (conf(&Set::from([1, 2, 3]), &Set::new()), conf(&Set::from([1, 2, 4]), &Set::new()));
     let quorum = |group: [u64; 2], conf: &Conf| Definition::Paper.is_quorum(&Set::from(group), conf);
     let as_it_should = quorum([2, 3], &before) && quorum([1, 4], &after) && apart(Definition::Paper, &before, &after)?.is_some();
-    holds(as_it_should, || "example 5, were it accepted".to_string(), "(2 3) and (1 4) are no quorums apart")
+    holds(as_it_should, || "example 5, were it accepted".to_string(), || "(2 3) and (1 4) are no quorums apart".to_string())
 }
 
 /// Under either wrong rule two voters can change without a joint configuration. That breaks the sentence from an odd number of voters and
@@ -206,7 +184,7 @@ fn odd_voters(rule: Wrong) -> Compared {
         let changed = before.incoming.symmetric_difference(&after.incoming).count();
         let expected = !after.joint() && changed == 2 && before.incoming.len() % 2 == 1;
         let found = (apart(Definition::Paper, &before, &after)?.is_some(), judged(&before, &after).is_err());
-        let what = format!("{rule:?}: quorums apart, sentence broken: {found:?}, expected both {expected}");
-        holds(found == (expected, expected), || show::request(request), &what)
+        let what = || format!("{rule:?}: quorums apart, sentence broken: {found:?}, expected both {expected}");
+        holds(found == (expected, expected), || show::request(request), what)
     })
 }

@@ -24,6 +24,7 @@ const EXAMPLES: usize = 100;
 /// Scripts that a group gives.
 const SCRIPTS_OF_A_GROUP: usize = 10;
 
+/// The groups on neighbours are left out: their calls are those of other groups.
 pub fn take() -> Taken {
     let mut taken = Taken { calls: vec![], scripts: vec![] };
     let neighbours = |group: &&Group| group.name.starts_with("neighbours");
