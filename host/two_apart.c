@@ -1,8 +1,8 @@
-/* The stack of the walk that decides 18, `two_apart` of libidset.a, and its answers on some pairs of sets.
+/* The stack of the walk that decides 18, `dimecandle_two_apart` of libidset.a, and its answers on some pairs of sets.
  * Build and run it: scripts/alone two_apart idset */
 #include "alone.h"
 
-_Bool two_apart(const word *a, word a_places, word m, const word *b, word b_places, word n);
+_Bool dimecandle_two_apart(const word *a, word a_places, word m, const word *b, word b_places, word n);
 
 /* What the walk may hold beyond the references that it is given. */
 enum { BOUND = 256 };
@@ -29,7 +29,7 @@ static const struct pair PAIRS[] = {
 /* How much stack the walk takes. */
 __attribute__((noinline)) static word measured(const word *a, word m, const word *b, word n, _Bool *apart) {
     volatile word *top = filled();
-    *apart = two_apart(a, PLACES, m, b, PLACES, n);
+    *apart = dimecandle_two_apart(a, PLACES, m, b, PLACES, n);
     return written(top);
 }
 

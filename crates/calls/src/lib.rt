@@ -1,12 +1,13 @@
 // One call on any state, in bytes, and one question about a box, in words: docs/EMBEDDING.md has the layout. This is how another language embeds the
 // library, and how it is compared with the Rust.
+use crate::read::ChangeList;
 use changer::Answer;
 use tracker::ChangeLog;
 use tracker::ConfState;
 use tracker::Outcome;
 use tracker::Tracker;
 use tracker::Verdict;
-use tracker::apply::apply;
+use tracker::apply::applied;
 ghost use mathlib.Core.Path.{_≡_};
 ghost use Prim.Native.Nat.{min};
 ghost use lib.ListN.{length};
@@ -86,7 +87,7 @@ fn reply_to(s: &[u8]) -> Reply
         return from_answer(t, ask(s, call, t));
     }
     if call == 5 {
-        return from_outcome(apply(t, read::conf(s), read::log(s), read::word(s, 969)));
+        return from_outcome(applied(t, read::conf(s), read::log(s), read::word(s, 969)));
     }
     if call == 6 {
         return from_written(t);
@@ -126,7 +127,11 @@ fn restored(s: &[u8], call: u64) -> Outcome
 fn least(n: usize) -> usize
     ensures { λ r. ⌜ r ≡ min n 260 ⌝ }
 {
-    if n < 260 { n } else { 260 }
+    if n < ChangeList::CAPACITY {
+        n
+    } else {
+        ChangeList::CAPACITY
+    }
 }
 
 fn from_verdict(t: Tracker, v: Verdict) -> Reply

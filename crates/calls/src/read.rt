@@ -17,10 +17,15 @@ ghost use Rattle.calls.specs.Layout.{number, word as wordAt, words as wo
 
 // The LIST: ids and kinds, and how many of each.
 pub struct ChangeList {
-    pub ids: [u64; 260],
+    pub ids: [u64; ChangeList::CAPACITY],
     pub ids_len: usize,
-    pub kinds: [u8; 260],
+    pub kinds: [u8; ChangeList::CAPACITY],
     pub kinds_len: usize,
+}
+
+impl ChangeList {
+    // More than a change list has, so that what is refused with 2 can be asked.
+    pub const CAPACITY: usize = 260;
 }
 
 // Word `k`; a byte that is not there counts as 0.
@@ -238,13 +243,13 @@ fn list_at(s: &[u8], k: usize) -> IdList
 }
 
 // 64 words.
-fn words_at(s: &[u8], k: usize) -> [u64; 64]
+fn words_at(s: &[u8], k: usize) -> [u64; IdSet::CAPACITY]
     requires { ⌜ k ≤ 8192 ⌝ }
     ensures { λ r. ⌜ r ≡ wordsAt 64 (now (s .entry)) k ⌝ }
 {
-    let mut out = [0u64; 64];
+    let mut out = [0u64; IdSet::CAPACITY];
     let mut i = 0;
-    while i < 64 {
+    while i < IdSet::CAPACITY {
         out[i] = word(s, k + i);
         i += 1;
     }
@@ -252,13 +257,13 @@ fn words_at(s: &[u8], k: usize) -> [u64; 64]
 }
 
 // The 260 ids of a LIST.
-fn ids_at(s: &[u8], k: usize) -> [u64; 260]
+fn ids_at(s: &[u8], k: usize) -> [u64; ChangeList::CAPACITY]
     requires { ⌜ k ≤ 8192 ⌝ }
     ensures { λ r. ⌜ r ≡ wordsAt 260 (now (s .entry)) k ⌝ }
 {
-    let mut out = [0u64; 260];
+    let mut out = [0u64; ChangeList::CAPACITY];
     let mut i = 0;
-    while i < 260 {
+    while i < ChangeList::CAPACITY {
         out[i] = word(s, k + i);
         i += 1;
     }
@@ -266,13 +271,13 @@ fn ids_at(s: &[u8], k: usize) -> [u64; 260]
 }
 
 // The 260 kinds of a LIST; one that is over 255 was refused before, and is cut.
-fn kinds_at(s: &[u8], k: usize) -> [u8; 260]
+fn kinds_at(s: &[u8], k: usize) -> [u8; ChangeList::CAPACITY]
     requires { ⌜ k ≤ 8192 ⌝ }
     ensures { λ r. ⌜ r ≡ kindsAt 260 (now (s .entry)) k ⌝ }
 {
-    let mut out = [0u8; 260];
+    let mut out = [0u8; ChangeList::CAPACITY];
     let mut i = 0;
-    while i < 260 {
+    while i < ChangeList::CAPACITY {
         out[i] = (word(s, k + i) % 256) as u8;
         i += 1;
     }
@@ -280,14 +285,14 @@ fn kinds_at(s: &[u8], k: usize) -> [u8; 260]
 }
 
 // The 64 RECORDs.
-fn records_at(s: &[u8], k: usize) -> [Progress; 64]
+fn records_at(s: &[u8], k: usize) -> [Progress; Tracker::CAPACITY]
     requires { ⌜ k ≤ 4096 ⌝ }
     ensures { λ r. ⌜ r ≡ recordsAt 64 (now (s .entry)) k ⌝ }
 {
     let unused = Progress::unused();
-    let mut out = [unused; 64];
+    let mut out = [unused; Tracker::CAPACITY];
     let mut i = 0;
-    while i < 64 {
+    while i < Tracker::CAPACITY {
         out[i] = record_at(s, k + 10 * i);
         i += 1;
     }
@@ -328,7 +333,7 @@ fn state_named(w: u64) -> ProgressState
 }
 
 // The 256 entries of a LOG.
-fn entries_at(s: &[u8], k: usize) -> [MapChange; 256]
+fn entries_at(s: &[u8], k: usize) -> [MapChange; ChangeLog::CAPACITY]
     requires { ⌜ k ≤ 4096 ⌝ }
     ensures { λ r. ⌜ r ≡ entriesAt 256 (now (s .entry)) k ⌝ }
 {
@@ -336,9 +341,9 @@ fn entries_at(s: &[u8], k: usize) -> [MapChange; 256]
         id: 0,
         kind: MapChangeType::Add,
     };
-    let mut out = [blank; 256];
+    let mut out = [blank; ChangeLog::CAPACITY];
     let mut i = 0;
-    while i < 256 {
+    while i < ChangeLog::CAPACITY {
         let kind = kind_named(word(s, k + 2 * i + 1));
         out[i] = MapChange {
             id: word(s, k + 2 * i),

@@ -100,12 +100,12 @@ fn put_state(out: &mut [u8], at: usize, t: Tracker) -> usize
     put_word(out, c, t.max_inflight)
 }
 
-fn put_records(out: &mut [u8], at: usize, records: [Progress; 64]) -> usize
+fn put_records(out: &mut [u8], at: usize, records: [Progress; Tracker::CAPACITY]) -> usize
     ensures { λ r. ⌜ Put (now (out .entry)) at (allBytes (recordsWords records)) (now (out .exit)) r ⌝ }
 {
     let mut p = at;
     let mut i = 0;
-    while i < 64 {
+    while i < Tracker::CAPACITY {
         let r = records[i];
         p = put_record(out, p, r);
         i += 1;
@@ -157,12 +157,12 @@ fn put_log(out: &mut [u8], at: usize, log: ChangeLog) -> usize
     put_word(out, p, log.count as u64)
 }
 
-fn put_entries(out: &mut [u8], at: usize, entries: [MapChange; 256]) -> usize
+fn put_entries(out: &mut [u8], at: usize, entries: [MapChange; ChangeLog::CAPACITY]) -> usize
     ensures { λ r. ⌜ Put (now (out .entry)) at (allBytes (entriesWords entries)) (now (out .exit)) r ⌝ }
 {
     let mut p = at;
     let mut i = 0;
-    while i < 256 {
+    while i < ChangeLog::CAPACITY {
         let e = entries[i];
         p = put_entry(out, p, e);
         i += 1;

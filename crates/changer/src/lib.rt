@@ -115,7 +115,7 @@ fn readable<'a>(ids: &'a [u64], kinds: &'a [u8]) -> Verdict
     if ids.len() != kinds.len() {
         return verdict(numbers::LIST_TOO_LONG);
     }
-    if ChangeLog::CAPACITY < ids.len() {
+    if changes::MAX_CHANGES < ids.len() {
         return verdict(numbers::LIST_TOO_LONG);
     }
     if above_2(kinds) {
@@ -256,7 +256,11 @@ fn accepted(conf: Configuration, log: ChangeLog, idle: usize) -> Answer
 fn least(n: usize) -> usize
     ensures { λ r. ⌜ r ≡ min n 64 ⌝ }
 {
-    if n < 64 { n } else { 64 }
+    if n < IdSet::CAPACITY {
+        n
+    } else {
+        IdSet::CAPACITY
+    }
 }
 
 // The check again, of what is answered: with the ids that are tracked once the log is applied. A fault refuses, with the configuration given.
@@ -279,7 +283,7 @@ fn tracked_after(tracked: IdSet, log: ChangeLog) -> IdSet
     let mut ids = tracked;
     let n = log.count;
     let mut i = 0;
-    while i < 256 {
+    while i < ChangeLog::CAPACITY {
         if n <= i {
             return ids;
         }
@@ -334,7 +338,7 @@ fn removals(outgoing: IdSet, incoming: IdSet, learners: IdSet) -> ChangeLog
     let mut i = 0;
     let mut j = 0;
     let mut k = 0;
-    while i < 64 {
+    while i < IdSet::CAPACITY {
         if n <= i {
             return log;
         }

@@ -5,6 +5,7 @@ use tracker::ChangeLog;
 use tracker::Configuration;
 use tracker::MapChange;
 use tracker::MapChangeType;
+use tracker::Tracker;
 ghost use mathlib.Core.Path.{_≡_};
 ghost use mathlib.Core.Bool.{_||_};
 ghost use Prim.Native.Nat.{_-_};
@@ -12,6 +13,9 @@ ghost use Rattle.changes.specs.Change.{standsIn, putIn, changedIn, place
 
 pub mod pending; // IncrChangeMap
 pub mod table; // the table of standings
+
+// The most entries that a change list has.
+pub const MAX_CHANGES: usize = 256;
 
 // The configuration and the log as far as a list is carried out, how many ids are then tracked, how many entries did nothing, and the id for which
 // there was no room.
@@ -99,7 +103,7 @@ fn moved(w: Work, id: u64, to: table::Move) -> Work
             done(placed.conf, w.log, n, idle_after(w.idle, placed.changed))
         }
         table::Effect::Adds => {
-            if 64 <= n {
+            if Tracker::CAPACITY <= n {
                 let conf = w.conf;
                 let log = w.log;
                 return Work {
@@ -158,7 +162,7 @@ fn idle_after(n: usize, changed: bool) -> usize
 fn one_more(n: usize) -> usize
     ensures { λ r. ⌜ r ≡ oneMore n ⌝ }
 {
-    if n < ChangeLog::CAPACITY { n + 1 } else { n }
+    if n < MAX_CHANGES { n + 1 } else { n }
 }
 
 fn less(n: usize) -> usize

@@ -48,7 +48,7 @@ fn says(log: ChangeLog, count: usize, id: u64, known: bool) -> bool
 {
     let mut answer = known;
     let mut i = 0;
-    while i < 256 {
+    while i < ChangeLog::CAPACITY {
         if count <= i {
             return answer;
         }

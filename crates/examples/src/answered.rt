@@ -41,7 +41,7 @@ fn say_log(log: ChangeLog) {
 fn say_entries(log: ChangeLog) {
     let n = log.count;
     let mut i = 0;
-    while i < 256 {
+    while i < ChangeLog::CAPACITY {
         if n <= i {
             return;
         }

@@ -60,17 +60,17 @@ pub(crate) fn conf_state(
 // The empty list.
 pub(crate) fn none() -> IdList {
     IdList {
-        ids: [0u64; 64],
+        ids: [0u64; IdList::CAPACITY],
         len: 0,
     }
 }
 
 // The list of these ids, at most 64 of them.
 pub(crate) fn list(ids: &[u64]) -> IdList {
-    let mut places = [0u64; 64];
+    let mut places = [0u64; IdList::CAPACITY];
     let mut n = 0;
     while n < ids.len() {
-        if 64 <= n {
+        if IdList::CAPACITY <= n {
             return IdList {
                 ids: places,
                 len: n,
@@ -87,7 +87,7 @@ pub(crate) fn list(ids: &[u64]) -> IdList {
 
 // The list 1 to 63.
 pub(crate) fn one_to_63() -> IdList {
-    let mut ids = [0u64; 64];
+    let mut ids = [0u64; IdList::CAPACITY];
     let mut n = 0;
     let mut id = 1;
     while n < 63 {

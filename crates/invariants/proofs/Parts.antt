@@ -1,17 +1,17 @@
 -- The four parts of the check: what each says, that their faults have numbers other than 0, and one after the other. Assumes nothing.
 use Prim.Native.Nat.{ℕ}
-use mathlib.Core.Path.{_≡_, refl, _∙_}
+use mathlib.Core.Path.{_≡_, refl, ap, _∙_}
 use mathlib.Core.Bool.{Bool, true, false, _&&_, not}
 use mathlib.Core.List.{List}
+use Rattle.rules.specs.Answers as rules
 use Rattle.rules.specs.Answers.{refuse, _▸_}
-use Rattle.rules.specs.Check.{joint}
 use Rattle.rules.specs.Ids.{isEmpty}
 use Rattle.rules.specs.State.{Conf}
 use Rattle.tracker.specs.Apply.{verdictOf}
 use Rattle.tracker.specs.declared.Verdict.{Verdict}
 use Rattle.invariants.specs.declared.Found.{Found}
 use Rattle.invariants.specs.Walk.{First, firstOut, firstIn, foundOf, faultAt, sooner, faultIn, soonerOf}
-use Rattle.invariants.specs.Check.{votersWalk, learnersWalk, stagedWalk, singleWalk, checkWalk}
+use Rattle.invariants.specs.Check.{votersWalk, learnersWalk, stagedWalk, singleWalk, restWalk, checkWalk}
 use Rattle.invariants.proofs.Faults.{Numbered, numbered-at, numbered-refuse, numbered-sooner, numbered-then, two-numbered, fault-says, sooner-says, two-say, then-stops, then-goes}
 
 -- ** What each says
@@ -55,49 +55,67 @@ module _ (j g auto : Bool) {r : Verdict} where
 
 -- ** Their numbers
 
+module _ (tracked : List ℕ) where
+  pub voters-numbered : (is os : List ℕ) → Numbered (votersWalk tracked is os)
+  voters-numbered is os = two-numbered (firstOut is tracked) (firstOut os tracked) 7 7 refl refl
+
+  pub learners-numbered : (is os ls : List ℕ) → Numbered (learnersWalk tracked is os ls)
+  learners-numbered is os ls =
+      numbered-sooner (faultAt (firstOut ls tracked) 8) (sooner (faultAt (firstIn ls os) 9) (faultAt (firstIn ls is) 10))
+      (numbered-at (firstOut ls tracked) 8 refl) (two-numbered (firstIn ls os) (firstIn ls is) 9 10 refl refl)
+
+  pub staged-numbered : (os gs : List ℕ) → Numbered (stagedWalk tracked os gs)
+  staged-numbered os gs = two-numbered (firstOut gs tracked) (firstOut gs os) 11 12 refl refl
+
+single-numbered : (j g auto : Bool) → Numbered (singleWalk j g auto)
+single-numbered j g auto =
+    numbered-then (refuse (not j && g) 13 0) (refuse (not j && auto) 14 0) (numbered-refuse (not j && g) 13 0 refl) (numbered-refuse (not j && auto) 14 0 refl)
+
+-- 11 and 12, then 13 and 14
+module _ (tracked os gs : List ℕ) (auto : Bool) where
+  rest-numbered : Numbered (restWalk tracked os gs auto)
+  rest-numbered =
+      numbered-then (stagedWalk tracked os gs) (singleWalk (not (isEmpty os)) (not (isEmpty gs)) auto) (staged-numbered tracked os gs)
+      (single-numbered (not (isEmpty os)) (not (isEmpty gs)) auto)
+
+  module _ {v : Verdict} (e : v ≡ verdictOf (stagedWalk tracked os gs)) where
+    pub staged-stops : (v .number ≡ 0 → ⊥) → v ≡ verdictOf (restWalk tracked os gs auto)
+    staged-stops = then-stops (stagedWalk tracked os gs) (singleWalk (not (isEmpty os)) (not (isEmpty gs)) auto) e
+
+    pub staged-goes : v .number ≡ 0 → {a b : Bool} → a ≡ isEmpty os → b ≡ isEmpty gs → {x : Verdict} → x ≡ verdictOf (singleWalk (not a) (not b) auto) → x ≡ verdictOf (restWalk tracked os gs auto)
+    staged-goes h {b = b} p q t =
+        then-goes (stagedWalk tracked os gs) (singleWalk (not (isEmpty os)) (not (isEmpty gs)) auto) e (staged-numbered tracked os gs) h
+        (t ∙ ap (λ (a : Bool). verdictOf (singleWalk (not a) (not b) auto)) p ∙ ap (λ (b : Bool). verdictOf (singleWalk (not (isEmpty os)) (not b) auto)) q)
+
 module _ (tracked : List ℕ) (c : Conf) where
-  pub voters-numbered : Numbered (votersWalk tracked (c .incoming) (c .outgoing))
-  voters-numbered = two-numbered (firstOut (c .incoming) tracked) (firstOut (c .outgoing) tracked) 7 7 refl refl
-
-  pub learners-numbered : Numbered (learnersWalk tracked (c .incoming) (c .outgoing) (c .learners))
-  learners-numbered = numbered-sooner (faultAt (firstOut (c .learners) tracked) 8) (sooner (faultAt (firstIn (c .learners) (c .outgoing)) 9) (faultAt (firstIn (c .learners) (c .incoming)) 10)) (numbered-at (firstOut (c .learners) tracked) 8 refl) (two-numbered (firstIn (c .learners) (c .outgoing)) (firstIn (c .learners) (c .incoming)) 9 10 refl refl)
-
-  pub staged-numbered : Numbered (stagedWalk tracked (c .outgoing) (c .staged))
-  staged-numbered = two-numbered (firstOut (c .staged) tracked) (firstOut (c .staged) (c .outgoing)) 11 12 refl refl
-
-  pub single-numbered : Numbered (singleWalk (joint c) (not (isEmpty (c .staged))) (c .autoLeave))
-  single-numbered = numbered-then (refuse (not (joint c) && not (isEmpty (c .staged))) 13 0) (refuse (not (joint c) && c .autoLeave) 14 0) (numbered-refuse (not (joint c) && not (isEmpty (c .staged))) 13 0 refl) (numbered-refuse (not (joint c) && c .autoLeave) 14 0 refl)
-
   pub check-numbered : Numbered (checkWalk tracked c)
   unfolding checkWalk
   check-numbered =
-      numbered-then (votersWalk tracked (c .incoming) (c .outgoing)) (learnersWalk tracked (c .incoming) (c .outgoing) (c .learners) ▸ stagedWalk tracked (c .outgoing) (c .staged) ▸ singleWalk (joint c) (not (isEmpty (c .staged))) (c .autoLeave)) voters-numbered
-      (numbered-then (learnersWalk tracked (c .incoming) (c .outgoing) (c .learners)) (stagedWalk tracked (c .outgoing) (c .staged) ▸ singleWalk (joint c) (not (isEmpty (c .staged))) (c .autoLeave)) learners-numbered
-      (numbered-then (stagedWalk tracked (c .outgoing) (c .staged)) (singleWalk (joint c) (not (isEmpty (c .staged))) (c .autoLeave)) staged-numbered single-numbered))
+      numbered-then (votersWalk tracked (c .incoming) (c .outgoing)) (learnersWalk tracked (c .incoming) (c .outgoing) (c .learners) ▸ restWalk tracked (c .outgoing) (c .staged) (c .autoLeave)) (voters-numbered tracked (c .incoming) (c .outgoing))
+      (numbered-then (learnersWalk tracked (c .incoming) (c .outgoing) (c .learners)) (restWalk tracked (c .outgoing) (c .staged) (c .autoLeave)) (learners-numbered tracked (c .incoming) (c .outgoing) (c .learners))
+      (rest-numbered tracked (c .outgoing) (c .staged) (c .autoLeave)))
 
 -- ** One part after the other
 
 module _ (tracked : List ℕ) (c : Conf) {u : Verdict} (p : u ≡ verdictOf (votersWalk tracked (c .incoming) (c .outgoing))) where
+  abbrev after : rules.Verdict
+  after = learnersWalk tracked (c .incoming) (c .outgoing) (c .learners) ▸ restWalk tracked (c .outgoing) (c .staged) (c .autoLeave)
+
   pub at-voters : (u .number ≡ 0 → ⊥) → u ≡ verdictOf (checkWalk tracked c)
   unfolding checkWalk
-  at-voters = then-stops (votersWalk tracked (c .incoming) (c .outgoing)) (learnersWalk tracked (c .incoming) (c .outgoing) (c .learners) ▸ stagedWalk tracked (c .outgoing) (c .staged) ▸ singleWalk (joint c) (not (isEmpty (c .staged))) (c .autoLeave)) p
+  at-voters = then-stops (votersWalk tracked (c .incoming) (c .outgoing)) after p
 
   module _ (h : u .number ≡ 0) where
-    past-voters : {x : Verdict} → x ≡ verdictOf (learnersWalk tracked (c .incoming) (c .outgoing) (c .learners) ▸ stagedWalk tracked (c .outgoing) (c .staged) ▸ singleWalk (joint c) (not (isEmpty (c .staged))) (c .autoLeave)) → x ≡ verdictOf (checkWalk tracked c)
+    past-voters : {x : Verdict} → x ≡ verdictOf after → x ≡ verdictOf (checkWalk tracked c)
     unfolding checkWalk
-    past-voters = then-goes (votersWalk tracked (c .incoming) (c .outgoing)) (learnersWalk tracked (c .incoming) (c .outgoing) (c .learners) ▸ stagedWalk tracked (c .outgoing) (c .staged) ▸ singleWalk (joint c) (not (isEmpty (c .staged))) (c .autoLeave)) p (voters-numbered tracked c) h
+    past-voters = then-goes (votersWalk tracked (c .incoming) (c .outgoing)) after p (voters-numbered tracked (c .incoming) (c .outgoing)) h
 
     module _ {v : Verdict} (q : v ≡ verdictOf (learnersWalk tracked (c .incoming) (c .outgoing) (c .learners))) where
       pub at-learners : (v .number ≡ 0 → ⊥) → v ≡ verdictOf (checkWalk tracked c)
-      at-learners k = past-voters (then-stops (learnersWalk tracked (c .incoming) (c .outgoing) (c .learners)) (stagedWalk tracked (c .outgoing) (c .staged) ▸ singleWalk (joint c) (not (isEmpty (c .staged))) (c .autoLeave)) q k)
+      at-learners k = past-voters (then-stops (learnersWalk tracked (c .incoming) (c .outgoing) (c .learners)) (restWalk tracked (c .outgoing) (c .staged) (c .autoLeave)) q k)
 
-      module _ (k : v .number ≡ 0) where
-        past-learners : {x : Verdict} → x ≡ verdictOf (stagedWalk tracked (c .outgoing) (c .staged) ▸ singleWalk (joint c) (not (isEmpty (c .staged))) (c .autoLeave)) → x ≡ verdictOf (checkWalk tracked c)
-        past-learners e = past-voters (then-goes (learnersWalk tracked (c .incoming) (c .outgoing) (c .learners)) (stagedWalk tracked (c .outgoing) (c .staged) ▸ singleWalk (joint c) (not (isEmpty (c .staged))) (c .autoLeave)) q (learners-numbered tracked c) k e)
-
-        module _ {w : Verdict} (r : w ≡ verdictOf (stagedWalk tracked (c .outgoing) (c .staged))) where
-          pub at-staged : (w .number ≡ 0 → ⊥) → w ≡ verdictOf (checkWalk tracked c)
-          at-staged l = past-learners (then-stops (stagedWalk tracked (c .outgoing) (c .staged)) (singleWalk (joint c) (not (isEmpty (c .staged))) (c .autoLeave)) r l)
-
-          pub at-single : w .number ≡ 0 → {x : Verdict} → x ≡ verdictOf (singleWalk (joint c) (not (isEmpty (c .staged))) (c .autoLeave)) → x ≡ verdictOf (checkWalk tracked c)
-          at-single l t = past-learners (then-goes (stagedWalk tracked (c .outgoing) (c .staged)) (singleWalk (joint c) (not (isEmpty (c .staged))) (c .autoLeave)) r (staged-numbered tracked c) l t)
+      pub at-rest : v .number ≡ 0 → {x : Verdict} → x ≡ verdictOf (restWalk tracked (c .outgoing) (c .staged) (c .autoLeave)) → x ≡ verdictOf (checkWalk tracked c)
+      at-rest k e =
+          past-voters
+          (then-goes (learnersWalk tracked (c .incoming) (c .outgoing) (c .learners)) (restWalk tracked (c .outgoing) (c .staged) (c .autoLeave)) q
+          (learners-numbered tracked (c .incoming) (c .outgoing) (c .learners)) k e)

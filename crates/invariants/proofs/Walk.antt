@@ -2,7 +2,7 @@
 -- the first id that is asked for. Assumes nothing.
 use Prim.Native.Nat.{ℕ, _+_, _≤_, _<_}
 use mathlib.Core.Path.{_≡_, refl, ap, _∙_, sym}
-use mathlib.Core.Bool.{Bool, true, false, not, true≢false}
+use mathlib.Core.Bool.{Bool, true, false, not, true≢false, Bool·beq}
 use mathlib.Core.List.{List, [], _∷_}
 use native.Mathlib.Omega.{arith}
 use borrow.Author.Tests.{not-true, not-false, ltb-true, ltb-false}
@@ -16,7 +16,7 @@ use Rattle.idset.specs.Places.{rank, firstIs}
 use Rattle.idset.proofs.Cursor.{found-at, still-ahead}
 use Rattle.idset.proofs.Part.{part-cons, part-end, part-out}
 use Rattle.invariants.specs.declared.Found.{Found}
-use Rattle.invariants.specs.Walk.{First, nobody, first, firstOut, firstIn, foundOf, faultAt, past}
+use Rattle.invariants.specs.Walk.{First, nobody, first, firstOut, firstIn, firstWhere, foundOf, faultAt, past}
 
 -- a walk that halts at the first of xs that it meets in ys, where met is true, or does not meet there, where it is false
 pub record Walk (met : Bool) (walk : List ℕ → List ℕ → First) : Type 0 where
@@ -32,30 +32,50 @@ pub walk-in : Walk true firstIn
 unfolding firstIn
 walk-in = record { none = λ ys. refl; halt = λ x xs ys h. rw h; pass = λ x xs ys h. rw h }
 
+pub walk-where : (met : Bool) → Walk met (firstWhere met)
+walk-where true = walk-in
+walk-where false = walk-out
+
 -- ** The loop
 
--- it has passed i of the first m of a, and j of the first n of b
-pub record Walking (walk : List ℕ → List ℕ → First) (m n : ℕ) (a b : List ℕ) (j i : ℕ) : Type 0 where
-  pub same : walk (take m a) (take n b) ≡ walk (drop i (take m a)) (drop j (take n b))
+-- what `==` of two Bools tells
+told-same : (s t : Bool) → Bool·beq s t ≡ true → s ≡ t
+told-same true true h = refl
+told-same true false h = absurd (true≢false (sym h))
+told-same false true h = absurd (true≢false (sym h))
+told-same false false h = refl
 
-module _ {met : Bool} {walk : List ℕ → List ℕ → First} (w : Walk met walk) {m n : ℕ} {a b : List ℕ} {j i : ℕ} (s : Walking walk m n a b j i) where
-  pub walk-end : m ≤ i → _≡_ {A = Found} (record { some = false; id = 0 }) (foundOf (walk (take m a) (take n b)))
+told-other : (s t : Bool) → Bool·beq s t ≡ false → s ≡ not t
+told-other true true h = absurd (true≢false h)
+told-other true false h = refl
+told-other false true h = refl
+told-other false false h = absurd (true≢false h)
+
+-- it has passed i of the first m of a, and j of the first n of b
+pub record Walking (met : Bool) (m n : ℕ) (a b : List ℕ) (j i : ℕ) : Type 0 where
+  pub same : firstWhere met (take m a) (take n b) ≡ firstWhere met (drop i (take m a)) (drop j (take n b))
+
+module _ {met : Bool} {m n : ℕ} {a b : List ℕ} {j i : ℕ} (s : Walking met m n a b j i) where
+  w : Walk met (firstWhere met)
+  w = walk-where met
+
+  pub walk-end : m ≤ i → _≡_ {A = Found} (record { some = false; id = 0 }) (foundOf (firstWhere met (take m a) (take n b)))
   walk-end h = rw (s .same, part-end m a i h, w .none)
 
-  pub walk-done : length a ≤ i → _≡_ {A = Found} (record { some = false; id = 0 }) (foundOf (walk (take m a) (take n b)))
+  pub walk-done : length a ≤ i → _≡_ {A = Found} (record { some = false; id = 0 }) (foundOf (firstWhere met (take m a) (take n b)))
   walk-done h = rw (s .same, part-out m a i h, w .none)
 
   module _ (h : i < m) (k : i < length a) (r : ℕ) (e : r ≡ j + rank (getD a i 0) (drop j (take n b))) (t : Bool) (q : t ≡ firstIs (getD a i 0) (drop r (take n b))) where
     there : drop r (take n b) ≡ past (getD a i 0) (drop j (take n b))
     there = rw e (sym (drop-drop (rank (getD a i 0) (drop j (take n b))) j (take n b)))
 
-    pub walk-halt : t ≡ met → _≡_ {A = Found} (record { some = true; id = getD a i 0 }) (foundOf (walk (take m a) (take n b)))
-    walk-halt g = rw (s .same, part-cons m a i h k, w .halt (getD a i 0) (drop (i + 1) (take m a)) (drop j (take n b)) (ap (firstIs (getD a i 0)) (sym there) ∙ sym q ∙ g))
+    pub walk-halt : Bool·beq t met ≡ true → _≡_ {A = Found} (record { some = true; id = getD a i 0 }) (foundOf (firstWhere met (take m a) (take n b)))
+    walk-halt g = rw (s .same, part-cons m a i h k, w .halt (getD a i 0) (drop (i + 1) (take m a)) (drop j (take n b)) (ap (firstIs (getD a i 0)) (sym there) ∙ sym q ∙ told-same t met g))
 
-    pub walk-next : t ≡ not met → Walking walk m n a b r (i + 1)
+    pub walk-next : Bool·beq t met ≡ false → Walking met m n a b r (i + 1)
     walk-next g =
         record {
-          same = s .same ∙ rw (part-cons m a i h k, w .pass (getD a i 0) (drop (i + 1) (take m a)) (drop j (take n b)) (ap (firstIs (getD a i 0)) (sym there) ∙ sym q ∙ g), there);
+          same = s .same ∙ rw (part-cons m a i h k, w .pass (getD a i 0) (drop (i + 1) (take m a)) (drop j (take n b)) (ap (firstIs (getD a i 0)) (sym there) ∙ sym q ∙ told-other t met g), there);
         }
 
 -- ** What it finds

@@ -6,7 +6,7 @@ use Rattle.rules.specs.Ids.{isEmpty}
 use Rattle.rules.specs.State.{Conf}
 use Rattle.rules.specs.Answers as rules
 use Rattle.rules.specs.Answers.{fault, refuse, _▸_}
-use Rattle.rules.specs.Check.{joint, checkState, inOrder}
+use Rattle.rules.specs.Check.{checkState, inOrder}
 use Rattle.tracker.specs.Bridge.{stateOf}
 use Rattle.tracker.specs.Form.{trackerWellFormed}
 use Rattle.tracker.specs.Apply.{verdictOf}
@@ -37,12 +37,15 @@ stagedWalk tracked outgoing staged = sooner (faultAt (firstOut staged tracked) 1
 abbrev pub singleWalk : Bool → Bool → Bool → rules.Verdict
 singleWalk j g auto = refuse (not j && g) 13 0 ▸ refuse (not j && auto) 14 0
 
+-- 11 and 12, then 13 and 14
+abbrev pub restWalk : List ℕ → List ℕ → List ℕ → Bool → rules.Verdict
+restWalk tracked outgoing staged auto = stagedWalk tracked outgoing staged ▸ singleWalk (not (isEmpty outgoing)) (not (isEmpty staged)) auto
+
 unfoldable pub checkWalk : List ℕ → Conf → rules.Verdict
 checkWalk tracked c =
     votersWalk tracked (c .incoming) (c .outgoing)
     ▸ learnersWalk tracked (c .incoming) (c .outgoing) (c .learners)
-    ▸ stagedWalk tracked (c .outgoing) (c .staged)
-    ▸ singleWalk (joint c) (not (isEmpty (c .staged))) (c .autoLeave)
+    ▸ restWalk tracked (c .outgoing) (c .staged) (c .autoLeave)
 
 -- all ids of the four sets, as far as there is room
 abbrev pub membersIn : Configuration → IdSet

@@ -19,7 +19,7 @@ use Rattle.tracker.specs.Apply.{verdictOf}
 use Rattle.tracker.specs.declared.Verdict.{Verdict}
 use Rattle.tracker.proofs.Bridge.{state-back, tracker-well}
 use Rattle.invariants.specs.Walk.{firstOut, firstIn, nobody, first}
-use Rattle.invariants.specs.Check.{votersWalk, learnersWalk, stagedWalk, singleWalk, checkWalk, checkOf, inOrderOf}
+use Rattle.invariants.specs.Check.{votersWalk, learnersWalk, restWalk, checkWalk, checkOf, inOrderOf}
 
 -- `joint` that asks incoming; that is negated
 pub joint-or-not : (joint (confOf (configurationOf (conf (1 ∷ []) [] [] []))) ≡ false) × (joint (confOf (configurationOf (conf [] (1 ∷ []) [] []))) ≡ true)
@@ -27,19 +27,19 @@ unfolding setOf
 joint-or-not = (refl, refl)
 
 pub walked :
-    -- `first_out` that gives the last
+    -- without `among`, a `first_where` that gives the last
     (firstOut (1 ∷ 2 ∷ 3 ∷ []) (2 ∷ []) ≡ first 1)
-    -- `first_out` that finds something where all are met
+    -- that finds something where all are met
     × (firstOut (1 ∷ 3 ∷ []) (1 ∷ 2 ∷ 3 ∷ []) ≡ nobody)
-    -- `first_out` that begins anew at each id: on lists that do not ascend the walk does not meet 1
+    -- that begins anew at each id: on lists that do not ascend the walk does not meet 1
     × (firstOut (5 ∷ 1 ∷ []) (1 ∷ 5 ∷ []) ≡ first 1)
-    -- `first_out` that looks past `n`
+    -- that looks past `n`
     × (firstOut (take 1 (2 ∷ [])) (take 1 (1 ∷ 2 ∷ [])) ≡ first 2)
-    -- `first_in` that gives the last
+    -- with `among`, a `first_where` that gives the last
     × (firstIn (1 ∷ 2 ∷ 3 ∷ []) (2 ∷ 3 ∷ []) ≡ first 2)
-    -- `first_in` that begins anew at each id
+    -- that begins anew at each id
     × (firstIn (5 ∷ 1 ∷ []) (1 ∷ 6 ∷ []) ≡ nobody)
-    -- `first_in` that looks past `m`
+    -- that looks past `m`
     × (firstIn (take 1 (1 ∷ 2 ∷ [])) (take 1 (2 ∷ [])) ≡ nobody)
 unfolding firstOut firstIn rank firstIs
 walked = (refl, refl, refl, refl, refl, refl, refl)
@@ -53,14 +53,16 @@ pub parts :
     × (learnersWalk (1 ∷ []) [] (1 ∷ []) (1 ∷ 2 ∷ []) ≡ fault 9 1)
     × (learnersWalk (1 ∷ []) (1 ∷ []) [] (1 ∷ []) ≡ fault 10 1)
     -- `check_staged` that takes 12 as the Rust's text has it; that gives 12 before 11
-    × (stagedWalk (1 ∷ []) (1 ∷ []) (1 ∷ []) ≡ ok)
-    × (stagedWalk [] [] (1 ∷ []) ≡ fault 11 1)
-    -- `check_single` that asks where it is joint; that gives 14 before 13
-    × (singleWalk true true true ≡ ok)
-    × (singleWalk false true true ≡ fault 13 0)
-    × (singleWalk false false true ≡ fault 14 0)
+    × (restWalk (1 ∷ []) (1 ∷ []) (1 ∷ []) false ≡ ok)
+    × (restWalk [] [] (1 ∷ []) false ≡ fault 11 1)
+    -- `check_staged` that refuses the flag where it is joint; that lets it pass where it is not
+    × (restWalk (1 ∷ []) (1 ∷ []) (1 ∷ []) true ≡ ok)
+    × (restWalk [] [] [] true ≡ fault 14 0)
+    -- `check_staged` that gives 13 where 12 comes first; that gives 14 where 12 comes first
+    × (restWalk (1 ∷ []) [] (1 ∷ []) false ≡ fault 12 1)
+    × (restWalk (1 ∷ []) [] (1 ∷ []) true ≡ fault 12 1)
 unfolding firstOut firstIn rank firstIs
-parts = (refl, refl, refl, refl, refl, refl, refl, refl, refl)
+parts = (refl, refl, refl, refl, refl, refl, refl, refl, refl, refl)
 
 -- The tracked ids, and the configuration.
 pub faults :

@@ -1,6 +1,6 @@
 -- Two ascending lists walked side by side, looking for the first id that is, or is not, in both. Assumes nothing.
 use Prim.Native.Nat.{ℕ}
-use mathlib.Core.Bool.{true, false, cond}
+use mathlib.Core.Bool.{Bool, true, false, cond}
 use mathlib.Core.List.{List, [], _∷_}
 use lib.Dec.{eqb, ltb}
 use lib.ListN.{drop}
@@ -32,6 +32,11 @@ firstOut (x ∷ xs) ys = cond (firstIs x (past x ys)) (firstOut xs (past x ys)) 
 unfoldable pub firstIn : List ℕ → List ℕ → First
 firstIn [] ys = nobody
 firstIn (x ∷ xs) ys = cond (firstIs x (past x ys)) (first x) (firstIn xs (past x ys))
+
+-- the first that it meets, or the first that it does not
+abbrev pub firstWhere : Bool → List ℕ → List ℕ → First
+firstWhere true = firstIn
+firstWhere false = firstOut
 
 -- a fault of this number at the id, if there is one
 abbrev pub faultAt : First → ℕ → rules.Verdict

@@ -10,8 +10,8 @@ ghost use Rattle.idset.specs.Set.{held};
 ghost use Rattle.tracker.specs.Bridge.{confOf};
 ghost use Rattle.tracker.specs.Apply.{verdictOf};
 ghost use Rattle.rules.specs.Check as rules;
-ghost use Rattle.invariants.specs.Walk.{firstOut, firstIn, foundOf, faultIn, soonerOf};
-ghost use Rattle.invariants.specs.Check.{votersWalk, learnersWalk, stagedWalk, singleWalk, checkWalk, areMembers, areApart, checkOf, inOrderOf};
+ghost use Rattle.invariants.specs.Walk.{firstWhere, foundOf, faultIn, soonerOf};
+ghost use Rattle.invariants.specs.Check.{votersWalk, learnersWalk, stagedWalk, singleWalk, restWalk, checkWalk, areMembers, areApart, checkOf, inOrderOf};
 
 // The first id that a walk was looking for, if there is one.
 pub struct Found {
@@ -51,14 +51,18 @@ pub fn check_invariants(conf: Configuration, ids: IdSet) -> Verdict
     if v.number != numbers::ACCEPTED {
         return v;
     }
-    let v = check_staged(&d.ids, d.len, &b.ids, b.len, &ids.ids, ids.len);
-    if v.number != numbers::ACCEPTED {
-        return v;
-    }
-    check_single(joint(conf), !d.is_empty(), conf.auto_leave)
+    check_staged(
+        &d.ids,
+        d.len,
+        &b.ids,
+        b.len,
+        conf.auto_leave,
+        &ids.ids,
+        ids.len,
+    )
 }
 
-// The four parts of the check take the sets that they ask as their places and counts, and read them where they stand.
+// The parts of the check take the sets that they ask as their places and counts, and read them where they stand.
 
 // 7: voters of incoming or outgoing, ascending.
 pub fn check_voters<'a>(
@@ -71,8 +75,14 @@ pub fn check_voters<'a>(
 ) -> Verdict
     ensures { λ r. ⌜ r ≡ verdictOf (votersWalk (take n (now (ids .entry))) (take i (now (incoming .entry))) (take o (now (outgoing .entry)))) ⌝ }
 {
-    let v = fault(first_out(incoming, i, ids, n), numbers::VOTER_NOT_TRACKED);
-    let w = fault(first_out(outgoing, o, ids, n), numbers::VOTER_NOT_TRACKED);
+    let v = fault(
+        first_where(incoming, i, ids, n, false),
+        numbers::VOTER_NOT_TRACKED,
+    );
+    let w = fault(
+        first_where(outgoing, o, ids, n, false),
+        numbers::VOTER_NOT_TRACKED,
+    );
     sooner(v, w)
 }
 
@@ -89,20 +99,46 @@ pub fn check_learners<'a>(
 ) -> Verdict
     ensures { λ r. ⌜ r ≡ verdictOf (learnersWalk (take n (now (ids .entry))) (take i (now (incoming .entry))) (take o (now (outgoing .entry))) (take l (now (learners .entry)))) ⌝ }
 {
-    let u = fault(first_out(learners, l, ids, n), numbers::LEARNER_NOT_TRACKED);
+    let u = fault(
+        first_where(learners, l, ids, n, false),
+        numbers::LEARNER_NOT_TRACKED,
+    );
     let v = fault(
-        first_in(learners, l, outgoing, o),
+        first_where(learners, l, outgoing, o, true),
         numbers::LEARNER_IS_OUTGOING,
     );
     let w = fault(
-        first_in(learners, l, incoming, i),
+        first_where(learners, l, incoming, i, true),
         numbers::LEARNER_IS_INCOMING,
     );
     sooner(u, sooner(v, w))
 }
 
-// 11, 12 for each staged id.
+// 11, 12 for each staged id; then, if not joint, 13 and 14. 13 has its place in the order and is never given: where it would be, 11 or 12 came first.
 pub fn check_staged<'a>(
+    staged: &'a [u64],
+    g: usize,
+    outgoing: &'a [u64],
+    o: usize,
+    auto_leave: bool,
+    ids: &'a [u64],
+    n: usize,
+) -> Verdict
+    ensures { λ r. ⌜ r ≡ verdictOf (restWalk (take n (now (ids .entry))) (take o (now (outgoing .entry))) (take g (now (staged .entry))) «auto_leave») ⌝ }
+{
+    let v = check_each_staged(staged, g, outgoing, o, ids, n);
+    if v.number != numbers::ACCEPTED {
+        return v;
+    }
+    check_single(
+        !idset::is_past(outgoing, o, 0),
+        !idset::is_past(staged, g, 0),
+        auto_leave,
+    )
+}
+
+// 11, 12 for each staged id.
+fn check_each_staged<'a>(
     staged: &'a [u64],
     g: usize,
     outgoing: &'a [u64],
@@ -112,16 +148,19 @@ pub fn check_staged<'a>(
 ) -> Verdict
     ensures { λ r. ⌜ r ≡ verdictOf (stagedWalk (take n (now (ids .entry))) (take o (now (outgoing .entry))) (take g (now (staged .entry)))) ⌝ }
 {
-    let v = fault(first_out(staged, g, ids, n), numbers::STAGED_NOT_TRACKED);
+    let v = fault(
+        first_where(staged, g, ids, n, false),
+        numbers::STAGED_NOT_TRACKED,
+    );
     let w = fault(
-        first_out(staged, g, outgoing, o),
+        first_where(staged, g, outgoing, o, false),
         numbers::STAGED_NOT_OUTGOING,
     );
     sooner(v, w)
 }
 
 // 13, 14: if not joint; whether there is a staged id, and the flag.
-pub fn check_single(is_joint: bool, staged: bool, auto_leave: bool) -> Verdict
+fn check_single(is_joint: bool, staged: bool, auto_leave: bool) -> Verdict
     ensures { λ r. ⌜ r ≡ verdictOf (singleWalk «is_joint» staged «auto_leave») ⌝ }
 {
     if is_joint {
@@ -168,9 +207,10 @@ fn sooner(v: Verdict, w: Verdict) -> Verdict
     v
 }
 
-// The first of the first `m` of `a` that is not among the first `n` of `b`, both ascending and walked side by side.
-pub fn first_out<'a>(a: &'a [u64], m: usize, b: &'a [u64], n: usize) -> Found
-    ensures { λ r. ⌜ r ≡ foundOf (firstOut (take m (now (a .entry))) (take n (now (b .entry)))) ⌝ }
+// The first of the first `m` of `a` that is among the first `n` of `b`, where `among` is true, or is not, where it is false; both ascending and walked
+// side by side.
+pub fn first_where<'a>(a: &'a [u64], m: usize, b: &'a [u64], n: usize, among: bool) -> Found
+    ensures { λ r. ⌜ r ≡ foundOf (firstWhere among (take m (now (a .entry))) (take n (now (b .entry)))) ⌝ }
 {
     let mut j = 0;
     let mut i = 0;
@@ -180,27 +220,7 @@ pub fn first_out<'a>(a: &'a [u64], m: usize, b: &'a [u64], n: usize) -> Found
         }
         let id = a[i];
         j = idset::seek(b, n, j, id);
-        if !idset::stands_at(b, n, j, id) {
-            return Found { some: true, id };
-        }
-        i += 1;
-    }
-    Found { some: false, id: 0 }
-}
-
-// The first of the first `m` of `a` that is among the first `n` of `b`, both ascending and walked side by side.
-pub fn first_in<'a>(a: &'a [u64], m: usize, b: &'a [u64], n: usize) -> Found
-    ensures { λ r. ⌜ r ≡ foundOf (firstIn (take m (now (a .entry))) (take n (now (b .entry)))) ⌝ }
-{
-    let mut j = 0;
-    let mut i = 0;
-    while i < a.len() {
-        if m <= i {
-            return Found { some: false, id: 0 };
-        }
-        let id = a[i];
-        j = idset::seek(b, n, j, id);
-        if idset::stands_at(b, n, j, id) {
+        if idset::stands_at(b, n, j, id) == among {
             return Found { some: true, id };
         }
         i += 1;
@@ -251,7 +271,7 @@ fn are_members(conf: Configuration, ids: IdSet) -> bool
     let others = conf.learners.union(conf.learners_next);
     let all = voters.set.union(others.set);
     let members = all.set;
-    let out = first_out(&ids.ids, ids.len, &members.ids, members.len);
+    let out = first_where(&ids.ids, ids.len, &members.ids, members.len, false);
     !out.some
 }
 
@@ -261,6 +281,6 @@ fn are_apart(conf: Configuration) -> bool
 {
     let a = conf.learners_next;
     let b = conf.incoming;
-    let both = first_in(&a.ids, a.len, &b.ids, b.len);
+    let both = first_where(&a.ids, a.len, &b.ids, b.len, true);
     !both.some
 }

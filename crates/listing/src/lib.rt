@@ -17,11 +17,17 @@ ghost use Rattle.listing.specs.Sessions.{sessionOf, beginIn, answerIn, p
 
 pub mod line; // the text of a line
 
+// The most bytes that a script has.
+pub const MAX_SCRIPT: usize = 65536;
+
+// The `max_inflight` of the state that a replay begins with.
+pub const MAX_INFLIGHT: u64 = 256;
+
 // A replay: the state, the pending list, and how many lines were printed.
 pub struct Session {
     pub tracker: Tracker,
-    pub ids: [u64; 256],
-    pub kinds: [u8; 256],
+    pub ids: [u64; changes::MAX_CHANGES],
+    pub kinds: [u8; changes::MAX_CHANGES],
     pub len: usize,
     pub printed: u64,
 }
@@ -32,7 +38,7 @@ pub struct Session {
 pub extern "C" fn dimecandle_replay(script: &[u8], out: &mut [u8]) -> u64
     ensures { λ r. ⌜ (r ≡ replayAnswer (now (script .entry)) (length (now (out .entry)))) × (now (out .exit) ≡ replayLeaves (now (script .entry)) (now (out .entry))) ⌝ }
 {
-    if 65536 < script.len() {
+    if MAX_SCRIPT < script.len() {
         return numbers::SCRIPT_TOO_LONG;
     }
     let mut none = [0u8; 1];
@@ -71,11 +77,11 @@ fn put_listing(script: &[u8], out: &mut [u8]) -> usize
 pub fn begin() -> Session
     ensures { λ r. ⌜ r ≡ beginIn ⌝ }
 {
-    let tracker = Tracker::new(256);
+    let tracker = Tracker::new(MAX_INFLIGHT);
     Session {
         tracker,
-        ids: [0u64; 256],
-        kinds: [0u8; 256],
+        ids: [0u64; changes::MAX_CHANGES],
+        kinds: [0u8; changes::MAX_CHANGES],
         len: 0,
         printed: 0,
     }
@@ -89,7 +95,7 @@ pub fn stops(z: Session, kind: u8) -> bool
         return true;
     }
     if kind <= 2 {
-        return 256 <= z.len;
+        return changes::MAX_CHANGES <= z.len;
     }
     if kind == 6 {
         return z.len != 0;
@@ -122,7 +128,7 @@ fn pend(z: Session, kind: u8, id: u64) -> Session
     ensures { λ r. ⌜ r ≡ pendIn z kind id ⌝ }
 {
     let n = z.len;
-    if 256 <= n {
+    if changes::MAX_CHANGES <= n {
         return z;
     }
     let mut longer = z;
@@ -152,7 +158,11 @@ fn answer_to(z: Session, kind: u8) -> Answer
 fn least(n: usize) -> usize
     ensures { λ r. ⌜ r ≡ min n 256 ⌝ }
 {
-    if n < 256 { n } else { 256 }
+    if n < changes::MAX_CHANGES {
+        n
+    } else {
+        changes::MAX_CHANGES
+    }
 }
 
 // An accepted answer is applied; the pending list is emptied either way, and a line more is printed.
@@ -164,8 +174,8 @@ fn applied(z: Session, a: Answer, next_idx: u64) -> Session
     let tracker = o.tracker;
     Session {
         tracker,
-        ids: [0u64; 256],
-        kinds: [0u8; 256],
+        ids: [0u64; changes::MAX_CHANGES],
+        kinds: [0u8; changes::MAX_CHANGES],
         len: 0, // nothing is pending
         printed: one_more(z.printed),
     }

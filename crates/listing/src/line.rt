@@ -74,7 +74,11 @@ fn put_set(out: &mut [u8], at: usize, set: IdSet) -> usize
 fn least(n: usize) -> usize
     ensures { λ r. ⌜ r ≡ min n 64 ⌝ }
 {
-    if n < 64 { n } else { 64 }
+    if n < IdSet::CAPACITY {
+        n
+    } else {
+        IdSet::CAPACITY
+    }
 }
 
 // A set that is not empty, after its label.
@@ -118,7 +122,7 @@ fn put_more(out: &mut [u8], at: usize, log: ChangeLog) -> usize
     let mut p = at;
     let n = log.count;
     let mut i = 1;
-    while i < 256 {
+    while i < ChangeLog::CAPACITY {
         if n <= i {
             return p;
         }

@@ -7,7 +7,7 @@ use tracker::ConfState;
 use tracker::IdList;
 use tracker::Outcome;
 use tracker::Tracker;
-use tracker::apply::apply;
+use tracker::apply::applied;
 use tracker::apply::refused;
 use tracker::numbers;
 ghost use mathlib.Core.Path.{_≡_};
@@ -24,8 +24,8 @@ ghost use Rattle.restore.specs.Steps.{Appended, Listed, entered, jointSt
 
 // A change list: the first `len` of `ids` and of `kinds`.
 pub struct Changes {
-    pub ids: [u64; 256],
-    pub kinds: [u8; 256],
+    pub ids: [u64; changes::MAX_CHANGES],
+    pub kinds: [u8; changes::MAX_CHANGES],
     pub len: usize,
 }
 
@@ -69,19 +69,19 @@ fn too_long(cs: ConfState) -> bool
     ensures { λ r. ⌜ r ≡ tooLong cs ⌝ }
 {
     let voters = cs.voters;
-    if 64 < voters.len {
+    if IdList::CAPACITY < voters.len {
         return true;
     }
     let learners = cs.learners;
-    if 64 < learners.len {
+    if IdList::CAPACITY < learners.len {
         return true;
     }
     let outgoing = cs.voters_outgoing;
-    if 64 < outgoing.len {
+    if IdList::CAPACITY < outgoing.len {
         return true;
     }
     let staged = cs.learners_next;
-    64 < staged.len
+    IdList::CAPACITY < staged.len
 }
 
 // No outgoing: each voter, learner and staged id in list order as a `simple` of its own; the flag is ignored.
@@ -136,7 +136,7 @@ fn one_by_one(t: Tracker, list: IdList, kind: u8, next_idx: u64) -> Outcome
     let mut o = refused(t, numbers::ACCEPTED, 0);
     let n = list.len;
     let mut i = 0;
-    while i < 64 {
+    while i < IdList::CAPACITY {
         if n <= i {
             return o;
         }
@@ -169,7 +169,7 @@ pub fn apply_answer(t: Tracker, a: Answer, next_idx: u64) -> Outcome
     }
     let conf = a.conf;
     let log = a.log;
-    apply(t, conf, log, next_idx)
+    applied(t, conf, log, next_idx)
 }
 
 // Translates a conf state into the operations that, when applied to the config made of the outgoing voters, represent it: remove each outgoing,
@@ -179,8 +179,8 @@ fn to_conf_change_single(cs: ConfState) -> Changes
     ensures { λ r. ⌜ Listed r (entered cs) ⌝ }
 {
     let none = Changes {
-        ids: [0u64; 256],
-        kinds: [0u8; 256],
+        ids: [0u64; changes::MAX_CHANGES],
+        kinds: [0u8; changes::MAX_CHANGES],
         len: 0,
     };
     let removed = append(none, cs.voters_outgoing, 1);

@@ -3,16 +3,16 @@ use mathlib.Core.Path.{_≡_, refl}
 use mathlib.Core.Bool.{false}
 use mathlib.Core.List.{List, [], _∷_}
 use Rattle.rules.specs.Ids.{memb, above, ascending, insertId, insertAll, removeId, minus}
-use Rattle.rules.specs.State.{State, ids, confFormed, formed, fresh, add, remove, logFormed}
+use Rattle.rules.specs.State.{ConfState, State, ids, confFormed, formed, fresh, add, remove, logFormed}
 use Rattle.rules.specs.Answers.{ok, fault, each}
 use Rattle.rules.specs.Check.{check}
 use Rattle.rules.specs.Table.{table, standingIn}
 use Rattle.rules.specs.Changes.{lastSays, pending, change, changes}
 use Rattle.rules.specs.Calls.{listOf, readable, simpleOf, simple, enterOf, enterJoint, removals, leaveOf, leaveJoint}
 use Rattle.rules.specs.Apply.{track, untrack, room, enrol, applyConf}
-use Rattle.rules.specs.Restore.{ask, run, all, oneByOne, restoreSteps, restorable, restoreStepByStep, restore}
+use Rattle.rules.specs.Restore.{Step, ask, run, all, oneByOne, restoreSteps, restorable, restoreStepByStep, restore}
 use Rattle.rules.specs.Sequences.{simpleCall, enterCall, leaveCall, restoreCall, stepByStepCall, perform}
-use Rattle.rules.specs.Rows.{old, new, olds, conf, of, lists, Row, row, told, asked}
+use Rattle.rules.specs.Rows.{old, new, olds, conf, of, lists, beforeLast, lastOf, callOf, Row, row, told, asked}
 
 abbrev s0 : State
 s0 = fresh 256
@@ -35,14 +35,20 @@ s8 = of (old 1 ∷ old 2 ∷ old 3 ∷ new 4 ∷ []) (conf (1 ∷ 2 ∷ 4 ∷ []
 abbrev s9 : State
 s9 = of (olds (1 ∷ 2 ∷ 3 ∷ [])) (conf (1 ∷ 2 ∷ []) (1 ∷ 2 ∷ 3 ∷ []) [] [])
 
--- example 11 before its last step, and restored: "these sets, tracked 1 to 6"
+-- example 11's lists and its steps; what the run of all but the last leaves; and restored: "these sets, tracked 1 to 6"
+abbrev cs11 : ConfState
+cs11 = lists (1 ∷ 2 ∷ 3 ∷ []) (5 ∷ []) (1 ∷ 2 ∷ 4 ∷ 6 ∷ []) (4 ∷ [])
+
+abbrev steps11 : List Step
+steps11 = restoreSteps cs11
+
 abbrev s11a : State
-s11a = of (new 1 ∷ new 2 ∷ new 4 ∷ new 6 ∷ []) (conf (1 ∷ 2 ∷ 4 ∷ 6 ∷ []) [] [] [])
+s11a = run 77 s0 (beforeLast steps11) .state
 
 abbrev s11 : State
 s11 = of (new 1 ∷ new 2 ∷ new 3 ∷ new 4 ∷ new 5 ∷ new 6 ∷ []) (conf (1 ∷ 2 ∷ 3 ∷ []) (1 ∷ 2 ∷ 4 ∷ 6 ∷ []) (5 ∷ []) (4 ∷ []))
 
--- kinds: 0 adds, 1 removes, 2 adds a learner
+-- kinds: 0 adds, 1 removes, 2 adds a learner. Of example 11 the third row is "its last step", which is asked of what the steps before it left.
 abbrev rows : List Row
 rows =
     row 1 s0 (simpleCall (1 ∷ []) (0 ∷ []) 77) ok (of (new 1 ∷ []) (conf (1 ∷ []) [] [] [])) (add 1 ∷ [])
@@ -58,9 +64,9 @@ rows =
     ∷ row 9 s123 (enterCall false (3 ∷ []) (1 ∷ []) 77) ok s9 []
     ∷ row 9 s9 (leaveCall 78) ok (of (old 1 ∷ old 2 ∷ []) (conf (1 ∷ 2 ∷ []) [] [] [])) (remove 3 ∷ [])
     ∷ row 10 s12 (simpleCall (2 ∷ 2 ∷ []) (1 ∷ 2 ∷ []) 77) ok (of (old 1 ∷ new 2 ∷ []) (s12 .conf)) (remove 2 ∷ add 2 ∷ [])
-    ∷ row 11 s0 (restoreCall (lists (1 ∷ 2 ∷ 3 ∷ []) (5 ∷ []) (1 ∷ 2 ∷ 4 ∷ 6 ∷ []) (4 ∷ [])) 77) ok s11 []
-    ∷ row 11 s0 (stepByStepCall (lists (1 ∷ 2 ∷ 3 ∷ []) (5 ∷ []) (1 ∷ 2 ∷ 4 ∷ 6 ∷ []) (4 ∷ [])) 77) ok s11 []
-    ∷ row 11 s11a (enterCall false (1 ∷ 2 ∷ 4 ∷ 6 ∷ 1 ∷ 2 ∷ 3 ∷ 5 ∷ 4 ∷ []) (1 ∷ 1 ∷ 1 ∷ 1 ∷ 0 ∷ 0 ∷ 0 ∷ 2 ∷ 2 ∷ []) 77) ok s11 (add 3 ∷ add 5 ∷ [])
+    ∷ row 11 s0 (restoreCall cs11 77) ok s11 []
+    ∷ row 11 s0 (stepByStepCall cs11 77) ok s11 []
+    ∷ row 11 s11a (callOf (lastOf steps11) 77) ok s11 (add 3 ∷ add 5 ∷ [])
     ∷ row 11 s11 (leaveCall 78) ok (of (new 1 ∷ new 2 ∷ new 3 ∷ new 4 ∷ new 5 ∷ []) (conf (1 ∷ 2 ∷ 3 ∷ []) [] (4 ∷ 5 ∷ []) [])) (remove 6 ∷ [])
     -- document 02, g): example 12 asks "by name for step-by-step restore"; by `restore` it is refused whole
     ∷ row 12 s0 (stepByStepCall (lists (1 ∷ 2 ∷ []) (1 ∷ 2 ∷ []) [] []) 77) (fault 17 0) (of (new 1 ∷ new 2 ∷ []) (conf (2 ∷ []) [] (1 ∷ []) [])) []

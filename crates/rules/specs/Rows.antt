@@ -3,9 +3,10 @@ use Prim.Native.Nat.{ℕ}
 use mathlib.Core.Bool.{false}
 use mathlib.Core.List.{List, [], _∷_}
 use Rattle.progress.specs.Record.{freshRecord}
-use Rattle.rules.specs.State.{Conf, Peer, State, Entry, ConfState}
+use Rattle.rules.specs.State.{Change, Conf, ConfState, Entry, Kind, Peer, State, addLearner, addNode, removeNode}
 use Rattle.rules.specs.Answers.{Verdict, Answer, accepted, refused, Outcome}
 use Rattle.rules.specs.Calls.{simple, enterJoint, leaveJoint}
+use Rattle.rules.specs.Restore.{Step, enterStep, leaveStep, simpleStep}
 use Rattle.rules.specs.Sequences.{Call, simpleCall, enterCall, leaveCall, restoreCall, stepByStepCall, perform}
 
 -- a box with a record from before the call, and one with a record that the call makes (its `next_idx` is 77)
@@ -29,6 +30,40 @@ of ps c = record { conf = c; peers = ps; maxInflight = 256 }
 -- voters, learners, outgoing voters, staged
 abbrev pub lists : List ℕ → List ℕ → List ℕ → List ℕ → ConfState
 lists v l o g = record { voters = v; learners = l; votersOutgoing = o; learnersNext = g; autoLeave = false }
+
+-- ** A restore's steps, taken one by one
+
+-- the steps before the last, and the last; a leave where there is none
+abbrev pub beforeLast : List Step → List Step
+beforeLast [] = []
+beforeLast (p ∷ []) = []
+beforeLast (p ∷ q ∷ ps) = p ∷ beforeLast (q ∷ ps)
+
+abbrev pub lastOf : List Step → Step
+lastOf [] = leaveStep
+lastOf (p ∷ []) = p
+lastOf (p ∷ q ∷ ps) = lastOf (q ∷ ps)
+
+abbrev idsIn : List Change → List ℕ
+idsIn [] = []
+idsIn (c ∷ cs) = c .id ∷ idsIn cs
+
+abbrev numberOf : Kind → ℕ
+numberOf addNode = 0
+numberOf removeNode = 1
+numberOf addLearner = 2
+
+abbrev kindsIn : List Change → List ℕ
+kindsIn [] = []
+kindsIn (c ∷ cs) = numberOf (c .kind) ∷ kindsIn cs
+
+-- the call that a step is
+abbrev pub callOf : Step → ℕ → Call
+callOf (simpleStep cs) n = simpleCall (idsIn cs) (kindsIn cs) n
+callOf (enterStep auto cs) n = enterCall auto (idsIn cs) (kindsIn cs) n
+callOf leaveStep n = leaveCall n
+
+-- ** The table
 
 pub record Row : Type 0 where
   pub example : ℕ

@@ -22,7 +22,7 @@ ghost use Rattle.tracker.specs.Enrol.{Rostered, peersIn, enterIn, enrolI
 // The tracked ids with their records, and the id for which there was no room.
 pub struct Peers {
     pub ids: IdSet,
-    pub records: [Progress; 64],
+    pub records: [Progress; Tracker::CAPACITY],
     pub full: bool,
     pub id: u64,
 }
@@ -84,8 +84,26 @@ pub fn apply_conf(t: &mut Tracker, conf: Configuration, log: ChangeLog, next_idx
     }
 }
 
+// The tracker with the answer applied to it where it stands: a tracker that came by value is lent to `apply_conf`.
+pub fn applied(t: Tracker, conf: Configuration, log: ChangeLog, next_idx: u64) -> Outcome
+    ensures { λ r. ⌜ r ≡ applyOf t conf log «next_idx» ⌝ }
+{
+    let mut lent = t;
+    let v = apply_conf(&mut lent, conf, log, next_idx);
+    Outcome {
+        number: v.number,
+        id: v.id,
+        tracker: lent,
+    }
+}
+
 // Takes the log's entries in order, `fresh` being the fresh record; stops where there is no room.
-fn enrol(ids: IdSet, records: [Progress; 64], log: ChangeLog, fresh: Progress) -> Peers
+fn enrol(
+    ids: IdSet,
+    records: [Progress; Tracker::CAPACITY],
+    log: ChangeLog,
+    fresh: Progress,
+) -> Peers
     requires { ⌜ Rostered ids records ⌝ }
     ensures { λ r. ⌜ r ≡ enrolIn fresh (logOf log) (peersOf (held ids) records) ⌝ }
 {
@@ -98,7 +116,7 @@ fn enrol(ids: IdSet, records: [Progress; 64], log: ChangeLog, fresh: Progress) -
     let n = log.count;
     let entries = log.entries;
     let mut i = 0;
-    while i < 256 {
+    while i < ChangeLog::CAPACITY {
         if n <= i {
             return peers;
         }
@@ -143,7 +161,7 @@ fn track(p: Peers, id: u64, r: Progress) -> Peers
             id: 0,
         };
     }
-    if IdSet::CAPACITY <= len {
+    if Tracker::CAPACITY <= len {
         return Peers {
             ids,
             records,
@@ -191,13 +209,17 @@ fn untrack(p: Peers, id: u64) -> Peers
 }
 
 // `records` with `r` at the place `at`: those from there on stand one place later, and the last is dropped.
-fn insert_record(records: [Progress; 64], at: usize, r: Progress) -> [Progress; 64]
+fn insert_record(
+    records: [Progress; Tracker::CAPACITY],
+    at: usize,
+    r: Progress,
+) -> [Progress; Tracker::CAPACITY]
     ensures { λ q. ⌜ q ≡ insertAt at r records ⌝ }
 {
     let mut out = records;
     let mut carried = r;
     let mut i = at;
-    while i < 64 {
+    while i < Tracker::CAPACITY {
         let next = out[i];
         out[i] = carried;
         carried = next;
@@ -207,17 +229,17 @@ fn insert_record(records: [Progress; 64], at: usize, r: Progress) -> [Progress; 
 }
 
 // `records` without the place `at`: those after it stand one place earlier, and the last place is unused.
-fn remove_record(records: [Progress; 64], at: usize) -> [Progress; 64]
+fn remove_record(records: [Progress; Tracker::CAPACITY], at: usize) -> [Progress; Tracker::CAPACITY]
     requires { ⌜ at < 64 ⌝ }
     ensures { λ q. ⌜ q ≡ removeAt at unusedRecord records ⌝ }
 {
     let mut out = records;
     let mut i = at;
-    while i < 63 {
+    while i < Tracker::LAST {
         let next = out[i + 1];
         out[i] = next;
         i += 1;
     }
-    out[63] = Progress::unused();
+    out[Tracker::LAST] = Progress::unused();
     out
 }

@@ -73,11 +73,11 @@ impl Tracker {
 }
 
 // Whether a record from `from` on is not the unused one.
-fn used_from(records: [Progress; 64], from: usize) -> bool
+fn used_from(records: [Progress; Tracker::CAPACITY], from: usize) -> bool
     ensures { λ r. ⌜ r ≡ not (allUnused (drop from records)) ⌝ }
 {
     let mut i = from;
-    while i < 64 {
+    while i < Tracker::CAPACITY {
         let r = records[i];
         if !r.is_unused() {
             return true;
@@ -88,11 +88,11 @@ fn used_from(records: [Progress; 64], from: usize) -> bool
 }
 
 // Whether an entry from `from` on is not blank.
-fn written_from(entries: [MapChange; 256], from: usize) -> bool
+fn written_from(entries: [MapChange; ChangeLog::CAPACITY], from: usize) -> bool
     ensures { λ r. ⌜ r ≡ not (allBlank (drop from entries)) ⌝ }
 {
     let mut i = from;
-    while i < 256 {
+    while i < ChangeLog::CAPACITY {
         let e = entries[i];
         if !e.is_blank() {
             return true;

@@ -34,7 +34,7 @@ pub struct MapChange {
 
 // Changes made by `Changer`: the first `count` of `entries`. An unused place is an Add of 0.
 pub struct ChangeLog {
-    pub entries: [MapChange; 256],
+    pub entries: [MapChange; ChangeLog::CAPACITY],
     pub count: usize,
 }
 
@@ -42,13 +42,13 @@ pub struct ChangeLog {
 pub struct Tracker {
     pub conf: Configuration,
     pub ids: IdSet,
-    pub records: [Progress; 64],
+    pub records: [Progress; Tracker::CAPACITY],
     pub max_inflight: u64,
 }
 
 // The first `len` of `ids`, in any order, repeats and zeros allowed.
 pub struct IdList {
-    pub ids: [u64; 64],
+    pub ids: [u64; IdList::CAPACITY],
     pub len: usize,
 }
 
@@ -107,7 +107,7 @@ impl ChangeLog {
             id: 0,
             kind: MapChangeType::Add,
         };
-        let entries = [unused; 256];
+        let entries = [unused; Self::CAPACITY];
         ChangeLog {
             entries: entries,
             count: 0,
@@ -115,8 +115,15 @@ impl ChangeLog {
     }
 }
 
+impl IdList {
+    pub const CAPACITY: usize = 64;
+}
+
 impl Tracker {
     pub const CAPACITY: usize = 64;
+
+    // The last place.
+    pub const LAST: usize = Self::CAPACITY - 1;
 
     // The fresh state.
     pub fn new(max_inflight: u64) -> Self
@@ -125,7 +132,7 @@ impl Tracker {
         let conf = Configuration::new();
         let ids = IdSet::new();
         let unused = Progress::unused();
-        let records = [unused; 64];
+        let records = [unused; Self::CAPACITY];
         Tracker {
             conf: conf,
             ids: ids,

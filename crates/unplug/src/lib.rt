@@ -175,11 +175,8 @@ fn check(s: &[u64]) -> Verdict
     }
     let staged = &s[195..259];
     let g = word(s, 259) as usize;
-    let v = invariants::check_staged(staged, g, outgoing, o, ids, n);
-    if v.number != numbers::ACCEPTED {
-        return v;
-    }
-    invariants::check_single(o != 0, g != 0, word(s, 260) == 1)
+    let auto_leave = word(s, 260) == 1;
+    invariants::check_staged(staged, g, outgoing, o, auto_leave, ids, n)
 }
 
 // Whether no incoming voter is left without `id`: an ascending set has another id unless it is empty or holds `id` alone. A removal of 0 is skipped.

@@ -75,8 +75,8 @@ log-requires c κs = search needs
 word-requires-2 : tie.Need-word-requires-2
 word-requires-2 c κs = search needs
 
-apply-requires : tie.Need-apply-requires
-apply-requires c κs = search needs
+applied-requires : tie.Need-applied-requires
+applied-requires c κs = search needs
 
 from-outcome-requires : tie.Need-from-outcome-requires
 from-outcome-requires c κs = search needs
@@ -86,7 +86,7 @@ returns-4 c =
     let s = c .before .before .before .before .before .before .before .before .before .before .before .before .args .s .now in
     let t = c .before .before .before .before .before .before .before .before .before .state .ensures in
     let w = c .before .before .before .before .before .before .before .before .before .before .word .ensures in
-    let a = c .before .apply .ensures in
+    let a = c .before .applied .ensures in
     let f = c .before .before .before .before .conf .ensures in
     let g = c .before .before .before .log .ensures in
     let n = c .before .before .word2 .ensures in
@@ -136,7 +136,7 @@ reply-to-spec =
     conf-requires
     log-requires
     word-requires-2
-    apply-requires
+    applied-requires
     from-outcome-requires
     returns-4
     from-written-requires

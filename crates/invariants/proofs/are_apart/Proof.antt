@@ -6,11 +6,11 @@ use Rattle.invariants.specs.declared.Found.{Found}
 use Rattle.invariants.proofs.are_apart.Statement.{statement}
 use Rattle.invariants.proofs.are_apart.Tie as tie
 
-first-in-requires : tie.Need-first-in-requires
-first-in-requires c κs = search needs
+first-where-requires : tie.Need-first-where-requires
+first-where-requires c κs = search needs
 
 returns : tie.Need-returns
-returns c = ap (λ (o : Found). not (o .some)) (c .before .first-in .ensures)
+returns c = ap (λ (o : Found). not (o .some)) (c .before .first-where .ensures)
 
 pub are-apart-spec : {M : Type 1} → statement M
-are-apart-spec = tie.close (tie.spec first-in-requires returns)
+are-apart-spec = tie.close (tie.spec first-where-requires returns)

@@ -14,16 +14,16 @@ union-requires-2 c κs = search needs
 union-requires-3 : tie.Need-union-requires-3
 union-requires-3 c κs = search needs
 
-first-out-requires : tie.Need-first-out-requires
-first-out-requires c κs = search needs
+first-where-requires : tie.Need-first-where-requires
+first-where-requires c κs = search needs
 
 returns : tie.Need-returns
 returns c =
     let u = c .before .before .before .before .before .before .before .before .before in
     let g = u .before .before .before .args in
-    members-say (held (g .t2)) (g .conf) (u .before .before .union .ensures) (u .before .union2 .ensures) (u .union3 .ensures) (c .before .first-out .ensures)
+    members-say (held (g .t2)) (g .conf) (u .before .before .union .ensures) (u .before .union2 .ensures) (u .union3 .ensures) (c .before .first-where .ensures)
 
 pub are-members-spec : {M : Type 1} → statement M
 are-members-spec =
     tie.close
-    (tie.spec union-requires union-requires-2 union-requires-3 first-out-requires returns)
+    (tie.spec union-requires union-requires-2 union-requires-3 first-where-requires returns)

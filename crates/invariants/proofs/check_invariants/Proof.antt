@@ -1,13 +1,8 @@
 -- `invariants::check_invariants` meets its contract: the first fault of the four parts. Assumes nothing.
 use borrow.Author.Needs.{needs}
-use mathlib.Core.Bool.{Bool, not}
-use mathlib.Core.Path.{ap, _∙_}
-use Rattle.rules.specs.Check.{joint}
 use Rattle.idset.specs.Set.{held}
 use Rattle.tracker.specs.Bridge.{confOf}
-use Rattle.tracker.specs.Apply.{verdictOf}
-use Rattle.invariants.specs.Check.{singleWalk}
-use Rattle.invariants.proofs.Parts.{at-voters, at-learners, at-staged, at-single}
+use Rattle.invariants.proofs.Parts.{at-voters, at-learners, at-rest}
 use Rattle.invariants.proofs.check_invariants.Statement.{statement}
 use Rattle.invariants.proofs.check_invariants.Tie as tie
 
@@ -34,32 +29,11 @@ check-staged-requires c κs = search needs
 
 returns-3 : tie.Need-returns-3
 returns-3 c =
-    let two = c .before .before .before .before .before .before .before .before .before .before .before .before in
+    let two = c .before .before .before .before .before .before .before .before .before .before in
     let one = two .before .before .before .before .before .before .before .before .before .before .before .before .before .before .before in
     let g = one .before .before .before .before .before .before .before .before .before .before .before .before .before .before .before .before .args in
-    at-staged (held (g .t2)) (confOf (g .conf)) (one .before .before .check-voters .ensures) (one .if1 .left)
-    (two .before .before .check-learners .ensures) (two .if2 .left) (c .before .before .check-staged .ensures) (c .if3 .taken)
-
-joint-requires : tie.Need-joint-requires
-joint-requires c κs = search needs
-
-is-empty-requires : tie.Need-is-empty-requires
-is-empty-requires c κs = search needs
-
-check-single-requires : tie.Need-check-single-requires
-check-single-requires c κs = search needs
-
-returns-4 : tie.Need-returns-4
-returns-4 c =
-    let three = c .before .before .before in
-    let two = three .before .before .before .before .before .before .before .before .before .before .before .before in
-    let one = two .before .before .before .before .before .before .before .before .before .before .before .before .before .before .before in
-    let g = one .before .before .before .before .before .before .before .before .before .before .before .before .before .before .before .before .args in
-    at-single (held (g .t2)) (confOf (g .conf)) (one .before .before .check-voters .ensures) (one .if1 .left)
-    (two .before .before .check-learners .ensures) (two .if2 .left) (three .before .before .check-staged .ensures) (three .if3 .left)
-    (c .check-single .ensures
-    ∙ ap (λ (j : Bool). verdictOf (singleWalk j (not (c .before .is-empty .result)) (g .conf .«auto_leave»))) (c .before .before .joint .ensures)
-    ∙ ap (λ (e : Bool). verdictOf (singleWalk (joint (confOf (g .conf))) (not e) (g .conf .«auto_leave»))) (c .before .is-empty .ensures))
+    at-rest (held (g .t2)) (confOf (g .conf)) (one .before .before .check-voters .ensures) (one .if1 .left)
+    (two .before .before .check-learners .ensures) (two .if2 .left) (c .check-staged .ensures)
 
 pub check-invariants-spec : {M : Type 1} → statement M
 check-invariants-spec =
@@ -70,8 +44,4 @@ check-invariants-spec =
     check-learners-requires
     returns-2
     check-staged-requires
-    returns-3
-    joint-requires
-    is-empty-requires
-    check-single-requires
-    returns-4)
+    returns-3)

@@ -1,38 +1,41 @@
--- `invariants::check_staged` meets its contract: the sooner of two walks' faults. Assumes nothing.
+-- `invariants::check_staged` meets its contract: 11 and 12 of each staged id, then 13 and 14. Assumes nothing.
 use borrow.Author.Needs.{needs}
 use lib.ListN.{take}
-use Rattle.invariants.proofs.Parts.{staged-say}
+use Rattle.invariants.proofs.Parts.{staged-stops, staged-goes}
 use Rattle.invariants.proofs.check_staged.Statement.{statement}
 use Rattle.invariants.proofs.check_staged.Tie as tie
 
-first-out-requires : tie.Need-first-out-requires
-first-out-requires c κs = search needs
-
-fault-requires : tie.Need-fault-requires
-fault-requires c κs = search needs
-
-first-out-requires-2 : tie.Need-first-out-requires-2
-first-out-requires-2 c κs = search needs
-
-fault-requires-2 : tie.Need-fault-requires-2
-fault-requires-2 c κs = search needs
-
-sooner-requires : tie.Need-sooner-requires
-sooner-requires c κs = search needs
+check-each-staged-requires : tie.Need-check-each-staged-requires
+check-each-staged-requires c κs = search needs
 
 returns : tie.Need-returns
 returns c =
-    let a = c .before .before .before .before .before .before .before .before .args in
-    staged-say (take (a .n) (a .ids .now)) (take (a .o) (a .outgoing .now)) (take (a .g) (a .staged .now)) (c .before .before .before .before .first-out .ensures) (c .before .before .before .fault .ensures)
-    (c .before .before .first-out2 .ensures) (c .before .fault2 .ensures) (c .sooner .ensures)
+    let a = c .before .before .before .before .before .before .args in
+    staged-stops (take (a .n) (a .ids .now)) (take (a .o) (a .outgoing .now)) (take (a .g) (a .staged .now)) (a .auto-leave) (c .before .before .check-each-staged .ensures) (c .if1 .taken)
+
+is-past-requires : tie.Need-is-past-requires
+is-past-requires c κs = search needs
+
+is-past-requires-2 : tie.Need-is-past-requires-2
+is-past-requires-2 c κs = search needs
+
+check-single-requires : tie.Need-check-single-requires
+check-single-requires c κs = search needs
+
+returns-2 : tie.Need-returns-2
+returns-2 c =
+    let s = c .before .before .before in
+    let a = s .before .before .before .before .before .before .args in
+    staged-goes (take (a .n) (a .ids .now)) (take (a .o) (a .outgoing .now)) (take (a .g) (a .staged .now)) (a .auto-leave) (s .before .before .check-each-staged .ensures) (s .if1 .left)
+    (c .before .before .is-past .ensures) (c .before .is-past2 .ensures) (c .check-single .ensures)
 
 pub check-staged-spec : {M : Type 1} → statement M
 check-staged-spec =
     tie.close
     (tie.spec
-    first-out-requires
-    fault-requires
-    first-out-requires-2
-    fault-requires-2
-    sooner-requires
-    returns)
+    check-each-staged-requires
+    returns
+    is-past-requires
+    is-past-requires-2
+    check-single-requires
+    returns-2)

@@ -5,14 +5,14 @@ use Rattle.invariants.proofs.Parts.{voters-say}
 use Rattle.invariants.proofs.check_voters.Statement.{statement}
 use Rattle.invariants.proofs.check_voters.Tie as tie
 
-first-out-requires : tie.Need-first-out-requires
-first-out-requires c κs = search needs
+first-where-requires : tie.Need-first-where-requires
+first-where-requires c κs = search needs
 
 fault-requires : tie.Need-fault-requires
 fault-requires c κs = search needs
 
-first-out-requires-2 : tie.Need-first-out-requires-2
-first-out-requires-2 c κs = search needs
+first-where-requires-2 : tie.Need-first-where-requires-2
+first-where-requires-2 c κs = search needs
 
 fault-requires-2 : tie.Need-fault-requires-2
 fault-requires-2 c κs = search needs
@@ -23,16 +23,16 @@ sooner-requires c κs = search needs
 returns : tie.Need-returns
 returns c =
     let g = c .before .before .before .before .before .before .before .before .args in
-    voters-say (take (g .n) (g .ids .now)) (take (g .i) (g .incoming .now)) (take (g .o) (g .outgoing .now)) (c .before .before .before .before .first-out .ensures) (c .before .before .before .fault .ensures)
-    (c .before .before .first-out2 .ensures) (c .before .fault2 .ensures) (c .sooner .ensures)
+    voters-say (take (g .n) (g .ids .now)) (take (g .i) (g .incoming .now)) (take (g .o) (g .outgoing .now)) (c .before .before .before .before .first-where .ensures) (c .before .before .before .fault .ensures)
+    (c .before .before .first-where2 .ensures) (c .before .fault2 .ensures) (c .sooner .ensures)
 
 pub check-voters-spec : {M : Type 1} → statement M
 check-voters-spec =
     tie.close
     (tie.spec
-    first-out-requires
+    first-where-requires
     fault-requires
-    first-out-requires-2
+    first-where-requires-2
     fault-requires-2
     sooner-requires
     returns)

@@ -10,11 +10,11 @@ refused-requires c κs = search needs
 returns : tie.Need-returns
 returns c = answer-refused _ _ _ (c .before .if1 .taken) (c .refused .ensures)
 
-apply-requires : tie.Need-apply-requires
-apply-requires c κs = search needs
+applied-requires : tie.Need-applied-requires
+applied-requires c κs = search needs
 
 returns-2 : tie.Need-returns-2
-returns-2 c = answer-applied _ _ _ (c .before .before .before .if1 .left) (c .apply .ensures)
+returns-2 c = answer-applied _ _ _ (c .before .before .before .if1 .left) (c .applied .ensures)
 
 pub apply-answer-spec : {M : Type 1} → statement M
-apply-answer-spec = tie.close (tie.spec refused-requires returns apply-requires returns-2)
+apply-answer-spec = tie.close (tie.spec refused-requires returns applied-requires returns-2)

@@ -8,7 +8,7 @@ use Rattle.idset.specs.Set.{held}
 use Rattle.tracker.specs.Apply.{verdictOf}
 use Rattle.tracker.specs.Bridge.{confOf}
 use Rattle.invariants.specs.Check.{votersWalk, learnersWalk, stagedWalk, singleWalk}
-use Rattle.invariants.proofs.Parts.{at-voters, at-learners, at-staged, at-single}
+use Rattle.invariants.proofs.Parts.{at-voters, at-learners, at-rest}
 use Rattle.unplug.specs.Words.{at}
 use Rattle.unplug.specs.Unplugs.{stateIn}
 use Rattle.unplug.proofs.WordBlocks.{part-words, some-words}
@@ -100,41 +100,26 @@ part-staged-end c = search needs
 word-requires-5 : tie.Need-word-requires-5
 word-requires-5 c κs = search needs
 
+word-requires-6 : tie.Need-word-requires-6
+word-requires-6 c κs = search needs
+
 check-staged-requires : tie.Need-check-staged-requires
 check-staged-requires c κs = search needs
 
 returns-3 : tie.Need-returns-3
 returns-3 c =
-    let ws = c .before .before .before .before .before .before .before .before .before .before .before .before .before .before .before .before .before .before .before .before .args .s .now in
-    let long : length ws ≡ 967 = c .before .before .before .before .before .before .before .before .before .before .before .before .before .before .before .before .before .before .before .before .pre in
-    let v : c .before .before .before .before .before .before .before .before .before .before .before .before .check-voters .result ≡ verdictOf (votersWalk (held (stateIn ws .ids)) (held (stateIn ws .conf .incoming)) (held (stateIn ws .conf .outgoing))) =
-    rw (c .before .before .before .before .before .before .before .before .before .before .before .before .before .word3 .ensures, c .before .before .before .before .before .before .before .before .before .before .before .before .before .before .before .word2 .ensures, c .before .before .before .before .before .before .before .before .before .before .before .before .before .before .before .before .before .word .ensures, part-words 64 0 ws (omega arith), part-words 64 65 ws (omega arith), part-words 64 261 ws (omega arith)) at (c .before .before .before .before .before .before .before .before .before .before .before .before .check-voters .ensures) in
-    let l : c .before .before .before .before .before .before .before .check-learners .result ≡ verdictOf (learnersWalk (held (stateIn ws .ids)) (held (stateIn ws .conf .incoming)) (held (stateIn ws .conf .outgoing)) (held (stateIn ws .conf .learners))) =
-    rw (c .before .before .before .before .before .before .before .before .word4 .ensures, c .before .before .before .before .before .before .before .before .before .before .before .before .before .word3 .ensures, c .before .before .before .before .before .before .before .before .before .before .before .before .before .before .before .word2 .ensures, c .before .before .before .before .before .before .before .before .before .before .before .before .before .before .before .before .before .word .ensures, part-words 64 0 ws (omega arith), part-words 64 65 ws (omega arith), part-words 64 130 ws (omega arith), part-words 64 261 ws (omega arith)) at (c .before .before .before .before .before .before .before .check-learners .ensures) in
-    let g : c .before .before .check-staged .result ≡ verdictOf (stagedWalk (held (stateIn ws .ids)) (held (stateIn ws .conf .outgoing)) (held (stateIn ws .conf .«learners_next»))) =
-    rw (c .before .before .before .word5 .ensures, c .before .before .before .before .before .before .before .before .before .before .before .before .before .word3 .ensures, c .before .before .before .before .before .before .before .before .before .before .before .before .before .before .before .word2 .ensures, part-words 64 65 ws (omega arith), part-words 64 195 ws (omega arith), part-words 64 261 ws (omega arith)) at (c .before .before .check-staged .ensures) in
-    at-staged (held (stateIn ws .ids)) (confOf (stateIn ws .conf)) v (c .before .before .before .before .before .before .before .before .before .before .if1 .left) l (c .before .before .before .before .before .if2 .left) g (c .if3 .taken)
-
-word-requires-6 : tie.Need-word-requires-6
-word-requires-6 c κs = search needs
-
-check-single-requires : tie.Need-check-single-requires
-check-single-requires c κs = search needs
-
-returns-4 : tie.Need-returns-4
-returns-4 c =
-    let ws = c .before .before .before .before .before .before .before .before .before .before .before .before .before .before .before .before .before .before .before .before .before .before .args .s .now in
-    let long : length ws ≡ 967 = c .before .before .before .before .before .before .before .before .before .before .before .before .before .before .before .before .before .before .before .before .before .before .pre in
-    let v : c .before .before .before .before .before .before .before .before .before .before .before .before .before .before .check-voters .result ≡ verdictOf (votersWalk (held (stateIn ws .ids)) (held (stateIn ws .conf .incoming)) (held (stateIn ws .conf .outgoing))) =
-    rw (c .before .before .before .before .before .before .before .before .before .before .before .before .before .before .before .word3 .ensures, c .before .before .before .before .before .before .before .before .before .before .before .before .before .before .before .before .before .word2 .ensures, c .before .before .before .before .before .before .before .before .before .before .before .before .before .before .before .before .before .before .before .word .ensures, part-words 64 0 ws (omega arith), part-words 64 65 ws (omega arith), part-words 64 261 ws (omega arith)) at (c .before .before .before .before .before .before .before .before .before .before .before .before .before .before .check-voters .ensures) in
-    let l : c .before .before .before .before .before .before .before .before .before .check-learners .result ≡ verdictOf (learnersWalk (held (stateIn ws .ids)) (held (stateIn ws .conf .incoming)) (held (stateIn ws .conf .outgoing)) (held (stateIn ws .conf .learners))) =
-    rw (c .before .before .before .before .before .before .before .before .before .before .word4 .ensures, c .before .before .before .before .before .before .before .before .before .before .before .before .before .before .before .word3 .ensures, c .before .before .before .before .before .before .before .before .before .before .before .before .before .before .before .before .before .word2 .ensures, c .before .before .before .before .before .before .before .before .before .before .before .before .before .before .before .before .before .before .before .word .ensures, part-words 64 0 ws (omega arith), part-words 64 65 ws (omega arith), part-words 64 130 ws (omega arith), part-words 64 261 ws (omega arith)) at (c .before .before .before .before .before .before .before .before .before .check-learners .ensures) in
-    let g : c .before .before .before .before .check-staged .result ≡ verdictOf (stagedWalk (held (stateIn ws .ids)) (held (stateIn ws .conf .outgoing)) (held (stateIn ws .conf .«learners_next»))) =
-    rw (c .before .before .before .before .before .word5 .ensures, c .before .before .before .before .before .before .before .before .before .before .before .before .before .before .before .word3 .ensures, c .before .before .before .before .before .before .before .before .before .before .before .before .before .before .before .before .before .word2 .ensures, part-words 64 65 ws (omega arith), part-words 64 195 ws (omega arith), part-words 64 261 ws (omega arith)) at (c .before .before .before .before .check-staged .ensures) in
-    let s : c .check-single .result ≡ verdictOf (singleWalk (not (eqb (at ws 129) 0)) (not (eqb (at ws 259) 0)) (eqb (at ws 260) 1)) =
-    rw (c .before .word6 .ensures, c .before .before .before .before .before .word5 .ensures, c .before .before .before .before .before .before .before .before .before .before .before .before .before .before .before .before .before .word2 .ensures) at (c .check-single .ensures) in
-    at-single (held (stateIn ws .ids)) (confOf (stateIn ws .conf)) v (c .before .before .before .before .before .before .before .before .before .before .before .before .if1 .left) l (c .before .before .before .before .before .before .before .if2 .left) g (c .before .before .if3 .left)
-    (rw (some-words (at ws) (at ws 129) 65, some-words (at ws) (at ws 259) 195) s)
+    let l = c .before .before .before .before in
+    let v = l .before .before .before .before .before in
+    let ws = v .before .before .before .before .before .before .before .before .before .before .args .s .now in
+    let long : length ws ≡ 967 = v .before .before .before .before .before .before .before .before .before .before .pre in
+    let w3 = v .before .before .before .word3 .ensures in
+    let w2 = v .before .before .before .before .before .word2 .ensures in
+    let w1 = v .before .before .before .before .before .before .before .word .ensures in
+    at-rest (held (stateIn ws .ids)) (confOf (stateIn ws .conf))
+    (rw (w3, w2, w1, part-words 64 0 ws (omega arith), part-words 64 65 ws (omega arith), part-words 64 261 ws (omega arith)) at (v .before .before .check-voters .ensures)) (v .if1 .left)
+    (rw (l .before .before .before .word4 .ensures, w3, w2, w1, part-words 64 0 ws (omega arith), part-words 64 65 ws (omega arith), part-words 64 130 ws (omega arith), part-words 64 261 ws (omega arith)) at (l .before .before .check-learners .ensures))
+    (l .if2 .left)
+    (rw (c .before .word6 .ensures, c .before .before .word5 .ensures, w3, w2, part-words 64 65 ws (omega arith), part-words 64 195 ws (omega arith), part-words 64 261 ws (omega arith)) at (c .check-staged .ensures))
 
 pub check-spec : {M : Type 1} → statement M
 check-spec =
@@ -164,8 +149,6 @@ check-spec =
     part-staged-start
     part-staged-end
     word-requires-5
-    check-staged-requires
-    returns-3
     word-requires-6
-    check-single-requires
-    returns-4)
+    check-staged-requires
+    returns-3)

@@ -1,25 +1,23 @@
--- `invariants::first_out` meets its contract. The loop's invariant: the walk along what is left of both lists finds what the whole walk
+-- `invariants::first_where` meets its contract. The loop's invariant: the walk along what is left of both lists finds what the whole walk
 -- finds. The measure is what is left of `a`. Assumes nothing.
 use borrow.Author.Needs.{needs}
 use Prim.Native.Nat.{_-_}
-use borrow.Author.Tests.{not-true, not-false}
 use lib.ListN.{length}
-use Rattle.invariants.specs.Walk.{firstOut}
-use Rattle.invariants.proofs.Walk.{Walking, walk-out, walk-end, walk-done, walk-halt, walk-next}
-use Rattle.invariants.proofs.first_out.Statement.{statement}
-use Rattle.invariants.proofs.first_out.Tie as tie
+use Rattle.invariants.proofs.Walk.{Walking, walk-end, walk-done, walk-halt, walk-next}
+use Rattle.invariants.proofs.first_where.Statement.{statement}
+use Rattle.invariants.proofs.first_where.Tie as tie
 
 abbrev Inv-loop : tie.InvT-loop
-Inv-loop a m b n j₀ i₀ j i = Walking firstOut m n a b j i
+Inv-loop a m b n among j₀ i₀ j i = Walking among m n a b j i
 
 abbrev μ-loop : tie.MeasureT-loop
-μ-loop a m b n j₀ i₀ j i = length a - i
+μ-loop a m b n among j₀ i₀ j i = length a - i
 
 loop-holds : tie.Need-loop-holds Inv-loop μ-loop
 loop-holds c = search needs
 
 returns : tie.Need-returns Inv-loop μ-loop
-returns c = search (needs, walk-end walk-out)
+returns c = search (needs, walk-end)
 
 mul-id : tie.Need-mul-id Inv-loop μ-loop
 mul-id c = search needs
@@ -34,7 +32,7 @@ stands-at-requires : tie.Need-stands-at-requires Inv-loop μ-loop
 stands-at-requires c κs = search needs
 
 returns-2 : tie.Need-returns-2 Inv-loop μ-loop
-returns-2 c = search (needs, walk-halt walk-out, not-true)
+returns-2 c = search (needs, walk-halt)
 
 add-i : tie.Need-add-i Inv-loop μ-loop
 add-i c = search needs
@@ -43,13 +41,13 @@ loop-less : tie.Need-loop-less Inv-loop μ-loop
 loop-less c = search needs
 
 loop-again : tie.Need-loop-again Inv-loop μ-loop
-loop-again c = search (needs, walk-next walk-out, not-false)
+loop-again c = search (needs, walk-next)
 
 returns-3 : tie.Need-returns-3 Inv-loop μ-loop
-returns-3 c = search (needs, walk-done walk-out)
+returns-3 c = search (needs, walk-done)
 
-pub first-out-spec : {M : Type 1} → statement M
-first-out-spec =
+pub first-where-spec : {M : Type 1} → statement M
+first-where-spec =
     tie.close
     (tie.spec
     Inv-loop
