@@ -19,6 +19,7 @@ pub mod Table
 pub mod Numbers
 pub mod Thirteen
 pub mod Accept
+pub mod Rust
 pub mod Singles
 pub mod Unplug
 pub mod RoundTrip

@@ -1,19 +1,38 @@
--- What demands 2 and 3, and document 02's g), ask of the rules, as statements; proofs/Demand3.antt, proofs/RoundTrip.antt and proofs/Whole.antt
--- prove them. Assumes nothing.
+-- What demands 2 and 3, document 01's table, and document 02's g) and h) ask of the rules, as statements; proofs/Theorems.antt proves them.
+-- Assumes nothing.
 use Prim.Native.Nat.{ℕ}
 use mathlib.Core.Path.{_≡_}
-use mathlib.Core.Bool.{true}
+use mathlib.Core.Bool.{true, false}
 use mathlib.Core.List.{List, []}
+use lib.Dec.{eqb}
 use Rattle.progress.specs.Record.{freshRecord}
 use Rattle.rules.specs.Ids.{memb}
-use Rattle.rules.specs.State.{ConfState, State, ids, fresh, members}
+use Rattle.rules.specs.State.{Change, ConfState, State, ids, fresh, members}
 use Rattle.rules.specs.Answers.{fault, ok, Outcome}
 use Rattle.rules.specs.Check.{isTracked, inOrder}
 use Rattle.rules.specs.Table.{placesOf, placesIn}
+use Rattle.rules.specs.Changes.{Work, change, changes, done, pendingTracked}
+use Rattle.rules.specs.Calls.{entering, start}
+use Rattle.rules.specs.Rust.{rustChanges}
 use Rattle.rules.specs.Apply.{toConfState}
 use Rattle.rules.specs.Restore.{restore, restoreStepByStep, restoreSteps}
 use Rattle.rules.specs.Sequences.{Call, afterCalls, deeds, deedsOf, inTurn, restoreCall, stepByStepCall}
 use Rattle.rules.specs.Boxes.{found, recordOf, boxOf, replay, events}
+
+-- "After the check, these rules stand as a table": the list cs, carried out from s by the table, is the list as changer.rs carries it out, with
+-- the same work at its end or the same id for which there is no room. `enter_joint` begins with outgoing a copy of incoming.
+pub record AsTheRust (s : State) (cs : List Change) : Type 0 where
+  pub simple : changes (ids (s .peers)) cs (start (s .conf)) ≡ rustChanges (ids (s .peers)) cs (start (s .conf))
+  pub enter : changes (ids (s .peers)) cs (start (entering (s .conf))) ≡ rustChanges (ids (s .peers)) cs (start (entering (s .conf)))
+
+-- The list cs was carried out from b and left w; then the change c left v: an id y that it does not name is tracked as before, and in the same sets.
+abbrev pub NextAltersItsOwn : State → Work → List Change → Type 0
+NextAltersItsOwn s b cs = (w v : Work) (c : Change) → changes (ids (s .peers)) cs b ≡ done w → change (ids (s .peers)) c w ≡ done v → (y : ℕ) → eqb (c .id) y ≡ false
+    → placesIn (pendingTracked (ids (s .peers)) (v .log) y) (v .conf) y ≡ placesIn (pendingTracked (ids (s .peers)) (w .log) y) (w .conf) y
+
+pub record AltersItsOwn (s : State) (cs : List Change) : Type 0 where
+  pub simple : NextAltersItsOwn s (start (s .conf)) cs
+  pub enter : NextAltersItsOwn s (start (entering (s .conf))) cs
 
 -- Demand 3. After the calls cs, made from s: the state is in order, "the tracked boxes are exactly the members", a box's standing
 -- tells in which sets it is, and "each box's standing and record are what a plain replay of the accepted changes naming that box, with
