@@ -23,4 +23,5 @@ pub mod Rust
 pub mod Singles
 pub mod Unplug
 pub mod RoundTrip
+pub mod Empty
 pub mod Theorems

@@ -22,7 +22,7 @@ use Rattle.rules.specs.Boxes.{naming}
 use Rattle.rules.specs.Unplug.{quick, straight, unplug}
 use Rattle.rules.specs.Quorum.{CallsShare, Group, SequenceShares, quorum}
 use Rattle.rules.specs.Rust.{byKind}
-use Rattle.rules.specs.Demands.{AltersItsOwn, AsTheRust, ComesBack, Kept, Whole}
+use Rattle.rules.specs.Demands.{AltersItsOwn, AsTheRust, ComesBack, EmptyComesBack, Kept, Whole}
 use Rattle.rules.proofs.Changes.{Fine}
 use Rattle.rules.proofs.Steps.{Ordered}
 use Rattle.rules.proofs.Order.{formed-of, ordered-of}
@@ -36,6 +36,7 @@ use Rattle.rules.proofs.Table.{change-agrees}
 use Rattle.rules.proofs.Rust.{alters-its-own, as-the-rust, only-its-own}
 use Rattle.rules.proofs.Thirteen.{check-never-13, call-never-13}
 use Rattle.rules.proofs.Unplug.{unplug-quick, unplug-straight}
+use Rattle.rules.proofs.Empty.{empty-back}
 use Rattle.rules.proofs.RoundTrip.{empty-trip, fresh-in-order, order-trip, round-trip}
 
 -- ** Number 13 is never given
@@ -120,7 +121,11 @@ joint-can-be-left s h j =
 pub order-comes-back : (s : State) → inOrder s ≡ true → isEmpty (s .conf .incoming) ≡ false → (l n : ℕ) → ComesBack s l n
 order-comes-back = order-trip
 
--- "So does the empty configuration."
+-- "So does the empty configuration": of any well-formed state
+pub empty-configuration-comes-back : (s : State) → formed s ≡ true → s .conf ≡ noConf → (l n : ℕ) → EmptyComesBack s l n
+empty-configuration-comes-back = empty-back
+
+-- and of a state in order all comes back, since there nothing else is tracked
 pub empty-comes-back : (s : State) → inOrder s ≡ true → s .conf ≡ noConf → (l n : ℕ) → ComesBack s l n
 empty-comes-back = empty-trip
 

@@ -57,6 +57,16 @@ pub record ComesBack (s : State) (l n : ℕ) : Type 0 where
   pub writes : toConfState s .verdict ≡ ok
   pub back : Back s l n (restore (fresh l) (toConfState s .confState) n)
 
+-- Document 02, h), "So does the empty configuration", of a state s with that configuration, boxes that are tracked only included: it is written out, and
+-- restored to `fresh l` by either name it is accepted and gives the configuration back. What is left is `fresh l`: no list that is written holds a box that
+-- is tracked only, so none is tracked.
+pub record EmptyComesBack (s : State) (l n : ℕ) : Type 0 where
+  pub writes : toConfState s .verdict ≡ ok
+  pub accepted : restore (fresh l) (toConfState s .confState) n .verdict ≡ ok
+  pub conf : restore (fresh l) (toConfState s .confState) n .state .conf ≡ s .conf
+  pub left : restore (fresh l) (toConfState s .confState) n .state ≡ fresh l
+  pub either-name : restoreStepByStep (fresh l) (toConfState s .confState) n ≡ restore (fresh l) (toConfState s .confState) n
+
 -- Document 02, g), of a restore asked of s: it says what the one step by step says, "the same number and id".
 pub record Whole (s : State) (cs : ConfState) (n : ℕ) : Type 0 where
   pub verdict : restore s cs n .verdict ≡ restoreStepByStep s cs n .verdict
