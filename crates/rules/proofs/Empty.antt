@@ -1,8 +1,7 @@
 -- The empty configuration of any well-formed state, written out and restored to fresh, comes back. Assumes nothing.
 use Prim.Native.Nat.{ℕ}
-use mathlib.Core.Path.{_≡_, refl, ap, _∙_, sym}
+use mathlib.Core.Path.{_≡_, refl}
 use mathlib.Core.Bool.{true}
-use mathlib.Core.List.{[]}
 use Rattle.rules.specs.Ids.{ascending}
 use Rattle.rules.specs.State.{State, confFormed, formed, fresh, ids, noConf}
 use Rattle.rules.specs.Answers.{Outcome, ok}

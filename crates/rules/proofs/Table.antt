@@ -9,7 +9,7 @@ use Rattle.progress.specs.declared.Progress.{Progress}
 use Rattle.rules.specs.Ids.{ascending, insertId, memb, removeId}
 use Rattle.rules.specs.State.{Change, Conf, Entry, Kind, Peer, addLearner, addNode, ids, removeNode}
 use Rattle.rules.specs.Table.{Effect, I, IO, L, O, OS, Places, Standing, adds, idle, none, place, placesIn, placesOf, put, removes, stays, table}
-use Rattle.rules.specs.Changes.{Done, Work, change, done, full, logged, pending, pendingTracked}
+use Rattle.rules.specs.Changes.{Work, change, done, full, logged, pending, pendingTracked}
 use Rattle.rules.specs.Rust.{byKind, rustChange, tracks, work}
 use Rattle.rules.proofs.Sets.{ascending-ext, ascending-insert, ascending-remove, insert-same, memb-insert, memb-remove, remove-none}
 use Rattle.rules.proofs.Changes.{Fine, entries, here, logged-done, tracked-now}

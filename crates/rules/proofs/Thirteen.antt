@@ -7,7 +7,7 @@ use lib.Dec.{eqb, leb}
 use lib.ListN.{length}
 use Rattle.rules.specs.Ids.{insertAll, isEmpty, memb}
 use Rattle.rules.specs.State.{logFormed, Conf, ConfState, Entry, State, add, confFormed, formed, ids, remove}
-use Rattle.rules.specs.Answers.{Answer, Outcome, Verdict, _⇒_, _▸_, accepted, each, fault, ok, refuse, refused, settle}
+use Rattle.rules.specs.Answers.{Answer, Outcome, Verdict, _▸_, accepted, each, fault, ok, refuse, refused, settle}
 use Rattle.rules.specs.Check.{check, joint}
 use Rattle.rules.specs.Calls.{enterJoint, enterOf, leaveJoint, leaveOf, listOf, readable, simple, simpleOf}
 use Rattle.rules.specs.Apply.{applied, applyConf, room}
