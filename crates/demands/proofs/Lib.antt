@@ -1,6 +1,8 @@
 pub mod Carried
 pub mod Boxes
 pub mod Counts
+pub mod Accepted
+pub mod Listed
 pub mod Others
 pub mod Late
 pub mod Stopped
