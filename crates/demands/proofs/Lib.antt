@@ -5,6 +5,8 @@ pub mod Accepted
 pub mod Listed
 pub mod Others
 pub mod Late
+pub mod Thirteen
+pub mod FirstTold
 pub mod Stopped
 pub mod Refused
 pub mod Whole

@@ -1,5 +1,5 @@
 -- What is claimed of the public calls, one theorem for each of the maintainer's sentences. They speak of the definitions that the public
--- contracts are equal to; the statements are specs/Demands.antt, Statements.antt and Neighbours.antt. Assumes nothing.
+-- contracts are equal to; the statements are specs/Demands.antt, Statements.antt, Neighbours.antt and Numbers.antt. Assumes nothing.
 use Prim.Native.Nat.{ℕ}
 use mathlib.Core.Path.{_≡_, ap, _∙_, sym}
 use mathlib.Core.Bool.{true, false}
@@ -23,11 +23,13 @@ use Rattle.restore.proofs.Restored.{stepped-runs}
 use Rattle.demands.specs.Sequences.{Call, afterCalls}
 use Rattle.demands.specs.Demands.{AcceptedIsApplied, CanBeLeft, ComesBack, CopyIsTheView, Counted, EmptyComesBack, Kept, Unplugged, Whole}
 use Rattle.demands.specs.Neighbours.{CallsShare, SequenceShares}
+use Rattle.demands.specs.Numbers.{FirstTold, FirstToldByEntries, Never13}
 use Rattle.demands.specs.Statements.{AsksSimple, OneAnswer, OthersAlterNeither, RefusedUntouched}
 use Rattle.demands.proofs.Accepted.{all-applied}
 use Rattle.demands.proofs.Boxes.{kept}
 use Rattle.demands.proofs.Bytes.{call, no-call, replay-no-room, replay-too-long}
 use Rattle.demands.proofs.Counts.{all-counted}
+use Rattle.demands.proofs.FirstTold.{entries-told, first-told}
 use Rattle.demands.proofs.Listed.{listed, own-altered}
 use Rattle.demands.proofs.Neighbours.{calls-share, sequence-shares}
 use Rattle.demands.proofs.Ordered.{can-be-left, empty-back, fresh-leads, order-back}
@@ -35,6 +37,7 @@ use Rattle.demands.proofs.Others.{others}
 use Rattle.demands.proofs.Refused.{applied-untouched, apply-untouched, asked-untouched, restore-untouched, steps-stay, steps-untouched, whole-untouched, written-nothing}
 use Rattle.demands.proofs.RoundTrip as trips
 use Rattle.demands.proofs.RoundTrip.{reached-back}
+use Rattle.demands.proofs.Thirteen.{all-other}
 use Rattle.demands.proofs.Unplugs.{no-unplug, one-answer, unplugged}
 use Rattle.demands.proofs.Whole.{whole}
 use Rattle.demands.proofs.AllSettled.{Settled, all-settled}
@@ -138,6 +141,19 @@ list-is-the-rust = listed
 
 pub list-alters-only-its-own : (t : Tracker) → checkOf t .number ≡ 0 → joint (confOf (t .conf)) ≡ false → (cs : List Change) → AltersItsOwn (stateOf t) cs
 list-alters-only-its-own = own-altered
+
+-- Document 01: "Number 13 is kept for the Rust's message but never given, since 11 or 12 comes first; that is proved." By no public function, and through no
+-- entry.
+pub never-13 : Never13
+never-13 = all-other
+
+-- Document 01: "Order: 1, 2, 3; then 4, 5 or 6; the check; 15; the changes, stopping at the first 16; 17; 18; the check again." Number and id are those of the
+-- first test that refuses: of every tracker, and through the entries.
+pub numbers-in-order : (t : Tracker) → FirstTold t
+numbers-in-order = first-told
+
+pub numbers-in-order-through-the-entries : FirstToldByEntries
+numbers-in-order-through-the-entries = entries-told
 
 -- Document 01: "Tracked is asked of the base ids with the pending log over them": the check again, which is asked of a copy of the ids, asks what the view would.
 pub copy-is-the-view : (t : Tracker) → CopyIsTheView t
