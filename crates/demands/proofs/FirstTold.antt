@@ -3,6 +3,7 @@ use Prim.Native.Nat.{ℕ}
 use mathlib.Core.Path.{_≡_, refl, ap, _∙_, sym}
 use mathlib.Core.Bool.{Bool, true, false, _&&_, _||_, not, cond}
 use mathlib.Core.List.{List, [], _∷_}
+use native.Mathlib.Omega.{arith}
 use borrow.Author.Tests.{eq-eqb}
 use lib.Dec.{eqb, leb, ltb}
 use lib.ListN.{length, take}
@@ -32,14 +33,15 @@ use Rattle.invariants.specs.Check.{checkOf}
 use Rattle.changer.specs.Calls.{answerOf, enterAnswer, ifFormed, leaveAnswer, simpleAnswer, unplugOf}
 use Rattle.restore.specs.Restore.{restoreOf, stepByStepOf, tooLong}
 use Rattle.restore.proofs.Restored.{stepped-runs}
-use Rattle.unplug.specs.Unplugs.{stateIn}
+use Rattle.unplug.specs.Unplugs.{stateHoldsIn, stateIn, toldOf}
 use Rattle.unplug.specs.Words.{flag}
+use Rattle.unplug.specs.declared.Told.{Told}
 use Rattle.listing.specs.Sessions.{answerIn}
 use Rattle.listing.specs.declared.Session.{Session}
 use Rattle.calls.specs.Layout.{confAt, confStateAt, logAt, stateAt, word}
 use Rattle.calls.specs.Call.{idsIn, kindsIn, replyTo}
 use Rattle.calls.specs.Unplugs.{unplugAnswer, unplugLeaves}
-use Rattle.demands.specs.Numbers.{FirstTold, FirstToldByEntries, applyTests, checkTests, endOf, enterTests, firstOf, leaveTests, noRoom, requestTests, restoreTests, simpleTests, told, toldReply, toldWritten, turnTests, unplugTests, writeTests}
+use Rattle.demands.specs.Numbers.{FirstTold, FirstToldByEntries, applyTests, checkTests, endOf, enterTests, firstOf, leaveTests, noRoom, requestTests, restoreTests, simpleTests, told, toldReply, toldWords, toldWritten, turnTests, unplugTests, writeTests}
 use Rattle.demands.proofs.Unplugs.{unplugged}
 use Rattle.demands.proofs.Whole.{whole}
 
@@ -250,6 +252,21 @@ reply-told s =
     (either toldReply (eqb (word s 0) 6) _ _ (writeTests t) _ (write-told t)
     (both toldReply (eqb (word s 0) 7) _ _ (restoreTests t (confStateAt s 2266) (word s 969)) (restore-told t (confStateAt s 2266) (word s 969)) (steps-told t (confStateAt s 2266) (word s 969)))))))))
 
+unplug-words : (state : List ℕ) (x : ℕ) → toldOf state x .returned ≡ 0 → toldWords (toldOf state x) ≡ verdictOf (firstOf (unplugTests (stateIn state) x))
+unfolding toldOf
+unplug-words state x = go (not (eqb (length state) 967)) (not (stateHoldsIn state))
+  where
+    u : Tracker
+    u = stateIn state
+
+    of : Bool → Bool → Told
+    of a b = cond a (record { returned = 1; number = 0; id = 0 }) (cond b (record { returned = 4; number = 0; id = 0 }) (record { returned = 0; number = unplugOf u x .number; id = unplugOf u x .id }))
+
+    go : (a b : Bool) → of a b .returned ≡ 0 → toldWords (of a b) ≡ verdictOf (firstOf (unplugTests u x))
+    go true b h = absurd (omega arith)
+    go false true h = absurd (omega arith)
+    go false false h = unplug-told u x
+
 words-told : (state verdict : List ℕ) (x : ℕ) → unplugAnswer state (length verdict) ≡ 0
     → take 2 (unplugLeaves state x verdict) ≡ numberOf (firstOf (unplugTests (stateIn state) x)) ∷ idOf (firstOf (unplugTests (stateIn state) x)) ∷ []
 unfolding unplugLeaves
@@ -264,4 +281,4 @@ turn-told z kind =
     (enter-told (z .tracker) (eqb kind 5) (take (z .len) (z .ids)) (take (z .len) (z .kinds))))
 
 pub entries-told : FirstToldByEntries
-entries-told = record { dimecandle-call = reply-told; dimecandle-unplug = words-told; replay-turn = turn-told }
+entries-told = record { dimecandle-call = reply-told; unplug = unplug-words; dimecandle-unplug = words-told; replay-turn = turn-told }

@@ -72,8 +72,8 @@ pub record AcceptedIsApplied (t : Tracker) : Type 0 where
   pub enter : (auto : Bool) (ids kinds : List ℕ) (n : ℕ) → enterAnswer t auto ids kinds .number ≡ 0 → appliedTo t (enterAnswer t auto ids kinds) n .number ≡ 0
   pub leave : (n : ℕ) → leaveAnswer t .number ≡ 0 → appliedTo t (leaveAnswer t) n .number ≡ 0
 
--- The check again: changer.rs asks its view of the base ids, the code a copy of the tracked ids with the log over them. Every id x is in the copy where the
--- view over the same ids, with the log and its count, answers that it is tracked.
+-- The check again: changer.rs asks its view of the base ids, the code a copy of the tracked ids with the log over them. Every id x is in the copy just where
+-- the view over the same ids, with the log and its count, answers that it is tracked.
 abbrev pub CopyIsView : IdSet → ChangeLog → Type 0
 CopyIsView tracked log = (x : ℕ) → memb x (held (pendingIn (logOf log) tracked)) ≡ trackedIn (held tracked) (log .count) log x
 

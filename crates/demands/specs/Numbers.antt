@@ -40,6 +40,7 @@ use Rattle.changer.specs.declared.Answer.{Answer}
 use Rattle.restore.specs.Restore.{appliedTo, restoreOf, stepByStepOf, tooLong, wholeOf}
 use Rattle.unplug.specs.Unplugs.{stateIn, toldOf}
 use Rattle.unplug.specs.Words.{at, flag}
+use Rattle.unplug.specs.declared.Told.{Told}
 use Rattle.listing.specs.Script as script
 use Rattle.listing.specs.Sessions.{answerIn}
 use Rattle.listing.specs.declared.Session.{Session}
@@ -217,7 +218,7 @@ unplugTests t x =
 
 -- ** What is told
 
--- number and id of an answer, of what was written, of a reply
+-- number and id of an answer, of what was written, of a reply, of what is told of a state in words
 abbrev pub told : Answer → struct.Verdict
 told a = record { number = a .number; id = a .id }
 
@@ -226,6 +227,9 @@ toldWritten w = record { number = w .number; id = w .id }
 
 abbrev pub toldReply : Reply → struct.Verdict
 toldReply r = record { number = r .number; id = r .id }
+
+abbrev pub toldWords : Told → struct.Verdict
+toldWords r = record { number = r .number; id = r .id }
 
 -- Each call of t tells the first of its tests that refuses.
 pub record FirstTold (t : Tracker) : Type 0 where
@@ -259,9 +263,10 @@ turnTests z kind =
     (cond (eqb kind 3) (simpleTests (z .tracker) (take (z .len) (z .ids)) (take (z .len) (z .kinds)))
     (enterTests (z .tracker) (eqb kind 5) (take (z .len) (z .ids)) (take (z .len) (z .kinds))))
 
--- Through the entries: the number and id of a reply; the two words of a verdict that was written; the answer of a turn.
+-- Through the entries: the number and id of a reply; what is told of a state in words, and the two words of a verdict that was written; the answer of a turn.
 pub record FirstToldByEntries : Type 0 where
   pub dimecandle-call : (request : List ℕ) → toldReply (replyTo request) ≡ verdictOf (firstOf (requestTests request))
+  pub unplug : (state : List ℕ) (x : ℕ) → toldOf state x .returned ≡ 0 → toldWords (toldOf state x) ≡ verdictOf (firstOf (unplugTests (stateIn state) x))
   pub dimecandle-unplug : (state verdict : List ℕ) (x : ℕ) → unplugAnswer state (length verdict) ≡ 0
       → take 2 (unplugLeaves state x verdict) ≡ numberOf (firstOf (unplugTests (stateIn state) x)) ∷ idOf (firstOf (unplugTests (stateIn state) x)) ∷ []
   pub replay-turn : (z : Session) (kind : ℕ) → told (answerIn z kind) ≡ verdictOf (firstOf (turnTests z kind))
