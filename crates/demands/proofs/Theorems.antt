@@ -142,8 +142,8 @@ list-is-the-rust = listed
 pub list-alters-only-its-own : (t : Tracker) → checkOf t .number ≡ 0 → joint (confOf (t .conf)) ≡ false → (cs : List Change) → AltersItsOwn (stateOf t) cs
 list-alters-only-its-own = own-altered
 
--- Document 01: "Number 13 is kept for the Rust's message but never given, since 11 or 12 comes first; that is proved." By no public function, and through no
--- entry.
+-- Document 01: "Number 13 is kept for the Rust's message but never given, since 11 or 12 comes first; that is proved." Of any tracker, any
+-- lists, any state in words, any request and any turn of a replay.
 pub never-13 : Never13
 never-13 = all-other
 

@@ -1,4 +1,4 @@
--- Number 13 is never given by a public function or through an entry. Assumes nothing.
+-- Number 13 is never given by a call or through an entry. Assumes nothing.
 use Prim.Native.Nat.{ℕ}
 use mathlib.Core.Path.{_≡_, refl}
 use mathlib.Core.Bool.{Bool, true, false, _&&_, not, cond}

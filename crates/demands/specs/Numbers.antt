@@ -55,7 +55,7 @@ use Rattle.calls.specs.declared.Reply.{Reply}
 abbrev pub Not13 : ℕ → Type 0
 Not13 n = eqb n 13 ≡ false
 
--- A line for each public function and each entry that answers a number.
+-- The calls and the entries that answer a number, a line for each.
 pub record Never13 : Type 0 where
   -- invariants: check; check_invariants of any ids and any configuration, malformed ones included, and its parts of any lists
   pub check : (t : Tracker) → Not13 (checkOf t .number)
