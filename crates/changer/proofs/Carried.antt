@@ -1,6 +1,6 @@
 -- A list of changes carried out on structs, and what comes after it: the rules' list and tests. Assumes nothing.
 use Prim.Native.Nat.{ℕ, min, _≤_}
-use mathlib.Core.Path.{_≡_, refl}
+use mathlib.Core.Path.{_≡_, refl, ap, _∙_, sym}
 use mathlib.Core.Bool.{Bool, true, false, cond}
 use mathlib.Core.List.{List}
 use native.Mathlib.Omega.{arith}
@@ -74,3 +74,17 @@ module _ {r : Progress} {ps : List Peer} {up : ascending (ids ps) ≡ true} (c :
       → ((v : Work) → After r ps up (listOf xs ks) (start c) v → on (acceptedIn (configurationOf (v .conf)) (changeLogOf (v .log)) idle) ≡ answerOf given idle (tests v ⇒ out v))
       → thenOn given (carriedIn tracked k xs ks) (on (carriedIn tracked k xs ks)) ≡ answerOf given idle (afterwards came (λ v. (refuse (isEmpty (v .conf .incoming)) 17 0 ▸ tests v) ⇒ out v))
   list-same given on tests out h = rw carried-came (came-on given k idle came on tests out (λ v d. h v (changes-done r ps up (listOf xs ks) (start c) v d f)))
+
+  -- the log of a list that was carried out and left a voter is that of the rules' work
+  pub carried-log : carriedIn tracked k xs ks .number ≡ 0 → (v : Work) × (carriedIn tracked k xs ks .log ≡ changeLogOf (v .log)) × After r ps up (listOf xs ks) (start c) v
+  carried-log h = go came refl (ap (λ (a : Answer). a .number) (sym carried-came) ∙ h)
+    where
+      of : (v : Work) (b : Bool) → cond b (refusedIn k 17 0) (acceptedIn (configurationOf (v .conf)) (changeLogOf (v .log)) idle) .number ≡ 0
+          → cond b (refusedIn k 17 0) (acceptedIn (configurationOf (v .conf)) (changeLogOf (v .log)) idle) .log ≡ changeLogOf (v .log)
+      of v true e = absurd (omega arith)
+      of v false e = refl
+
+      go : (d : Done) → came ≡ d → listCame k idle d .number ≡ 0 → (v : Work) × (carriedIn tracked k xs ks .log ≡ changeLogOf (v .log)) × After r ps up (listOf xs ks) (start c) v
+      go (done v) p e =
+          (v, ap (λ (a : Answer). a .log) carried-came ∙ ap (λ (d : Done). listCame k idle d .log) p ∙ of v (isEmpty (v .conf .incoming)) e, changes-done r ps up (listOf xs ks) (start c) v p f)
+      go (full x) p e = absurd (omega arith)

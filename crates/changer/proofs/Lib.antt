@@ -5,6 +5,7 @@ pub mod Changed
 pub mod Gone
 pub mod Left
 pub mod Same
+pub mod View
 pub mod Unplug
 pub mod Above
 pub mod Tests

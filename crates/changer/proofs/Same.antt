@@ -38,7 +38,7 @@ module _ (t : Tracker) where
   abbrev checks : Verdict
   checks = check (isTracked s) (s .conf)
 
-  own-numbered : Numbered (ownCheck t)
+  pub own-numbered : Numbered (ownCheck t)
   own-numbered = check-numbered (held (t .ids)) (confOf (t .conf))
 
   module _ (w : trackerWellFormed t ≡ true) where
@@ -47,16 +47,16 @@ module _ (t : Tracker) where
         walk-checks (held (t .ids)) (s .conf) (held-rises (t .ids) (tracker-parts t w .ids)) (conf-formed (t .conf) (tracker-parts t w .conf))
         ∙ ap (λ (l : List ℕ). check (λ x. memb x l) (s .conf)) (sym (tracked-ids t w))
 
-    same-tracked : t .ids ≡ setOf (ids (s .peers))
+    pub same-tracked : t .ids ≡ setOf (ids (s .peers))
     same-tracked = sym (roster-set (rostered t w))
 
-    same-conf : t .conf ≡ configurationOf (s .conf)
+    pub same-conf : t .conf ≡ configurationOf (s .conf)
     same-conf = sym (unit-conf (t .conf) (tracker-parts t w .conf))
 
     whole : Whole s
     whole = whole-of s (tracker-formed t w)
 
-    checked : checks ≡ ok → joint (s .conf) ≡ false → Checked s
+    pub checked : checks ≡ ok → joint (s .conf) ≡ false → Checked s
     checked = single-checked s (tracker-formed t w)
 
   -- 4 or 6, and 15

@@ -1,8 +1,12 @@
 pub mod Carried
 pub mod Boxes
 pub mod Counts
+pub mod Accepted
+pub mod Listed
 pub mod Others
 pub mod Late
+pub mod Thirteen
+pub mod FirstTold
 pub mod Stopped
 pub mod Refused
 pub mod Whole

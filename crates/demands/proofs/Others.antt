@@ -9,27 +9,19 @@ use lib.Dec.{eqb}
 use lib.ListN.{length}
 use Rattle.progress.specs.Record.{freshRecord}
 use Rattle.progress.specs.declared.Progress.{Progress}
-use Rattle.rules.specs.State.{Change, formed}
-use Rattle.rules.specs.Calls.{enterJoint, kindOf, listOf, simple}
-use Rattle.rules.specs.Idle.{enterIdles, simpleIdles}
+use Rattle.rules.specs.State.{Change}
+use Rattle.rules.specs.Calls.{kindOf, listOf}
 use Rattle.rules.specs.Boxes.{Event, entered, naming, replay}
-use Rattle.rules.specs.Answers as R
-use Rattle.rules.specs.Answers.{accepted, refused}
-use Rattle.rules.specs.Restore.{applyAnswer, enterStep, simpleStep}
+use Rattle.rules.specs.Restore.{enterStep, simpleStep}
 use Rattle.rules.proofs.Theorems as rules
-use Rattle.tracker.specs.Apply.{outcomeOf}
-use Rattle.tracker.specs.Bridge.{stateOf}
-use Rattle.tracker.specs.Form.{trackerWellFormed}
-use Rattle.tracker.specs.declared.Outcome.{Outcome}
 use Rattle.tracker.specs.declared.Tracker.{Tracker}
-use Rattle.tracker.proofs.Bridge.{tracker-formed}
 use Rattle.invariants.specs.Check.{inOrderOf}
-use Rattle.changer.specs.Calls.{answerOf, enterAnswer, simpleAnswer}
+use Rattle.changer.specs.Calls.{enterAnswer, simpleAnswer}
 use Rattle.restore.specs.Restore.{appliedTo}
-use Rattle.restore.proofs.Applied.{Fits, applied-same, enter-fits, simple-fits}
 use Rattle.demands.specs.Sequences.{boxIn, deedsOf, enterCall, perform, simpleCall}
 use Rattle.demands.specs.Statements.{OthersAlterNeither}
-use Rattle.demands.proofs.Boxes.{one-step, order-formed}
+use Rattle.demands.proofs.Accepted.{all-applied}
+use Rattle.demands.proofs.Boxes.{one-step}
 
 list-append : (xs ys ks ls : List ℕ) → length xs ≡ length ks → listOf (xs ++ ys) (ks ++ ls) ≡ listOf xs ks ++ listOf ys ls
 unfolding listOf
@@ -50,41 +42,18 @@ other-named r x xs ys ks ls y k h e =
 -- ** An accepted list
 
 module _ (t : Tracker) (h : inOrderOf t ≡ true) (n x : ℕ) where
-  w : trackerWellFormed t ≡ true
-  w = order-formed t h
-
-  f : formed (stateOf t) ≡ true
-  f = tracker-formed t w
-
-  -- an accepted answer is applied
-  applies : (i : ℕ) (a : R.Answer) → Fits (stateOf t) n a → answerOf (t .conf) i a .number ≡ 0 → appliedTo t (answerOf (t .conf) i a) n .number ≡ 0
-  unfolding Fits
-  applies i a k e = ap (λ (o : Outcome). o .number) (applied-same t w n i a k) ∙ go a k e
-    where
-      go : (a : R.Answer) → Fits (stateOf t) n a → answerOf (t .conf) i a .number ≡ 0 → outcomeOf (applyAnswer (stateOf t) n a) .number ≡ 0
-      go (accepted c log) k e = rw (k .done)
-      go (refused m y) k e = e
-
-  simple-applies : (ids kinds : List ℕ) → simpleAnswer t ids kinds .number ≡ 0 → appliedTo t (simpleAnswer t ids kinds) n .number ≡ 0
-  unfolding simpleAnswer
-  simple-applies ids kinds e = rw w (applies (simpleIdles (stateOf t) ids kinds) (simple (stateOf t) ids kinds) (simple-fits (stateOf t) n f ids kinds) (rw w at e))
-
-  enter-applies : (auto : Bool) (ids kinds : List ℕ) → enterAnswer t auto ids kinds .number ≡ 0 → appliedTo t (enterAnswer t auto ids kinds) n .number ≡ 0
-  unfolding enterAnswer
-  enter-applies auto ids kinds e = rw w (applies (enterIdles (stateOf t) auto ids kinds) (enterJoint (stateOf t) auto ids kinds) (enter-fits (stateOf t) n f auto ids kinds) (rw w at e))
-
   abbrev r : Progress
   r = freshRecord n (t .«max_inflight»)
 
   simple-box : (ids kinds : List ℕ) → simpleAnswer t ids kinds .number ≡ 0
       → boxIn (appliedTo t (simpleAnswer t ids kinds) n .tracker) x ≡ replay (naming r x (listOf ids kinds)) (boxIn t x)
   unfolding perform deedsOf
-  simple-box ids kinds e = one-step t h (simpleCall ids kinds n) (simpleStep (listOf ids kinds)) n (rw (simple-applies ids kinds e)) x
+  simple-box ids kinds e = one-step t h (simpleCall ids kinds n) (simpleStep (listOf ids kinds)) n (rw (all-applied t .simple ids kinds n e)) x
 
   enter-box : (auto : Bool) (ids kinds : List ℕ) → enterAnswer t auto ids kinds .number ≡ 0
       → boxIn (appliedTo t (enterAnswer t auto ids kinds) n .tracker) x ≡ replay (entered ∷ naming r x (listOf ids kinds)) (boxIn t x)
   unfolding perform deedsOf
-  enter-box auto ids kinds e = one-step t h (enterCall auto ids kinds n) (enterStep auto (listOf ids kinds)) n (rw (enter-applies auto ids kinds e)) x
+  enter-box auto ids kinds e = one-step t h (enterCall auto ids kinds n) (enterStep auto (listOf ids kinds)) n (rw (all-applied t .enter auto ids kinds n e)) x
 
   pub others : OthersAlterNeither t n x
   others =

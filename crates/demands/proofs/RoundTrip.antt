@@ -1,4 +1,4 @@
--- Demand 2's last sentence of trackers, from the rules' round trip. Assumes nothing.
+-- Demand 2's last sentence of trackers, from the rules' round trip, and the empty configuration's. Assumes nothing.
 use Prim.Native.Nat.{ℕ, _≤_}
 use mathlib.Core.Path.{_≡_, refl, ap, _∙_, subst, sym}
 use mathlib.Core.Bool.{true, false}
@@ -6,7 +6,7 @@ use mathlib.Core.List.{List}
 use borrow.Author.Tests.{le-ltb}
 use lib.ListN.{length}
 use Rattle.rules.specs.Ids.{ascending, memb}
-use Rattle.rules.specs.State.{State, confFormed, formed, fresh, ids}
+use Rattle.rules.specs.State.{State, confFormed, formed, fresh, ids, noConf}
 use Rattle.rules.specs.State as lists
 use Rattle.rules.specs.Answers as R
 use Rattle.rules.specs.Apply.{toConfState, written}
@@ -14,7 +14,7 @@ use Rattle.rules.specs.Boxes.{recordOf}
 use Rattle.rules.specs.Demands as demands
 use Rattle.rules.specs.Restore.{restore}
 use Rattle.rules.specs.Sequences as rules
-use Rattle.rules.proofs.Theorems.{reached-comes-back}
+use Rattle.rules.proofs.Theorems.{empty-configuration-comes-back, reached-comes-back}
 use Rattle.idset.specs.Set.{held, setOf}
 use Rattle.tracker.specs.Apply.{numberOf, outcomeOf}
 use Rattle.tracker.specs.Bridge.{confOf, confStateOf, configurationOf, listsOf, peersOf, recordPlaces, stateOf, trackerOf}
@@ -29,7 +29,7 @@ use Rattle.tracker.proofs.Peers.{peers-records}
 use Rattle.restore.specs.Restore.{restoreOf, tooLong}
 use Rattle.restore.proofs.Restored.{restored}
 use Rattle.demands.specs.Sequences.{Call, afterCalls}
-use Rattle.demands.specs.Demands.{ComesBack}
+use Rattle.demands.specs.Demands.{ComesBack, EmptyComesBack}
 use Rattle.demands.proofs.Carried.{Carried, carried, plain}
 use Rattle.demands.proofs.Whole.{whole}
 
@@ -105,6 +105,19 @@ module _ (u : Tracker) (w : trackerWellFormed u ≡ true) where
               ∙ ap (recordOf x) (peers-records (o .state .peers) _)
               ∙ b .back .records x (ap (memb x) same ∙ h);
           inflight = ap (λ (r : Outcome). r .tracker .«max_inflight») restores ∙ b .back .inflight;
+          either-name = sym (whole (trackerOf (fresh l)) (writtenOf u .«conf_state») n .accepted accepts);
+        }
+
+    -- the empty configuration
+    pub empty-comes-back : confOf (u .conf) ≡ noConf → EmptyComesBack u l n
+    empty-comes-back e =
+        let b : demands.EmptyComesBack (stateOf u) l n = empty-configuration-comes-back (stateOf u) (tracker-formed u w) e l n in
+        let accepts : restoreOf (trackerOf (fresh l)) (writtenOf u .«conf_state») n .number ≡ 0 = ap (λ (r : Outcome). r .number) restores ∙ ap numberOf (b .accepted) in
+        record {
+          written = ap (λ (r : Written). r .number) writes;
+          accepted = accepts;
+          same = ap (λ (r : Outcome). r .tracker .conf) restores ∙ ap configurationOf (b .conf) ∙ unit-conf (u .conf) (tracker-parts u w .conf);
+          left = ap (λ (r : Outcome). r .tracker) restores ∙ ap trackerOf (b .left);
           either-name = sym (whole (trackerOf (fresh l)) (writtenOf u .«conf_state») n .accepted accepts);
         }
 

@@ -1,5 +1,5 @@
 -- What is claimed of the public calls, one theorem for each of the maintainer's sentences. They speak of the definitions that the public
--- contracts are equal to; the statements are specs/Demands.antt, Statements.antt and Neighbours.antt. Assumes nothing.
+-- contracts are equal to; the statements are specs/Demands.antt, Statements.antt, Neighbours.antt and Numbers.antt. Assumes nothing.
 use Prim.Native.Nat.{ℕ}
 use mathlib.Core.Path.{_≡_, ap, _∙_, sym}
 use mathlib.Core.Bool.{true, false}
@@ -7,28 +7,37 @@ use mathlib.Core.List.{List}
 use lib.Dec.{eqb}
 use Rattle.rules.specs.Check.{joint}
 use Rattle.rules.specs.Ids.{isEmpty}
-use Rattle.rules.specs.State.{fresh, noConf}
+use Rattle.rules.specs.State.{Change, fresh, noConf}
 use Rattle.rules.specs.Calls.{enterJoint, leaveJoint, simple}
+use Rattle.rules.specs.Demands.{AltersItsOwn, AsTheRust}
 use Rattle.rules.specs.Idle.{enterIdles, simpleIdles}
 use Rattle.tracker.specs.Bridge.{confOf, stateOf, trackerOf}
+use Rattle.tracker.specs.Form.{trackerWellFormed}
 use Rattle.tracker.specs.declared.ConfState.{ConfState}
 use Rattle.tracker.specs.declared.Tracker.{Tracker}
 use Rattle.tracker.specs.declared.Verdict.{Verdict}
-use Rattle.invariants.specs.Check.{inOrderOf}
+use Rattle.invariants.specs.Check.{checkOf, inOrderOf}
 use Rattle.changer.specs.Calls.{enterAnswer, leaveAnswer, simpleAnswer}
+use Rattle.changer.proofs.View.{enter-alike, leave-alike, simple-alike}
 use Rattle.restore.proofs.Restored.{stepped-runs}
 use Rattle.demands.specs.Sequences.{Call, afterCalls}
-use Rattle.demands.specs.Demands.{CanBeLeft, ComesBack, Counted, Kept, Unplugged, Whole}
+use Rattle.demands.specs.Demands.{AcceptedIsApplied, CanBeLeft, ComesBack, CopyIsTheView, Counted, EmptyComesBack, Kept, Unplugged, Whole}
 use Rattle.demands.specs.Neighbours.{CallsShare, SequenceShares}
+use Rattle.demands.specs.Numbers.{FirstTold, FirstToldByEntries, Never13}
 use Rattle.demands.specs.Statements.{AsksSimple, OneAnswer, OthersAlterNeither, RefusedUntouched}
+use Rattle.demands.proofs.Accepted.{all-applied}
 use Rattle.demands.proofs.Boxes.{kept}
 use Rattle.demands.proofs.Bytes.{call, no-call, replay-no-room, replay-too-long}
 use Rattle.demands.proofs.Counts.{all-counted}
+use Rattle.demands.proofs.FirstTold.{entries-told, first-told}
+use Rattle.demands.proofs.Listed.{listed, own-altered}
 use Rattle.demands.proofs.Neighbours.{calls-share, sequence-shares}
 use Rattle.demands.proofs.Ordered.{can-be-left, empty-back, fresh-leads, order-back}
 use Rattle.demands.proofs.Others.{others}
 use Rattle.demands.proofs.Refused.{applied-untouched, apply-untouched, asked-untouched, restore-untouched, steps-stay, steps-untouched, whole-untouched, written-nothing}
+use Rattle.demands.proofs.RoundTrip as trips
 use Rattle.demands.proofs.RoundTrip.{reached-back}
+use Rattle.demands.proofs.Thirteen.{all-other}
 use Rattle.demands.proofs.Unplugs.{no-unplug, one-answer, unplugged}
 use Rattle.demands.proofs.Whole.{whole}
 use Rattle.demands.proofs.AllSettled.{Settled, all-settled}
@@ -69,6 +78,10 @@ round-trip = reached-back
 pub boxes : (t : Tracker) → inOrderOf t ≡ true → (cs : List Call) → Kept t cs
 boxes = kept
 
+-- Demand 3: "apply each accepted answer at once to the state it was asked of." An accepted answer is applied: of any tracker, with any `next_idx`.
+pub accepted-is-applied : (t : Tracker) → AcceptedIsApplied t
+accepted-is-applied = all-applied
+
 -- Demand 3: "In an accepted list, changes naming other boxes alter neither."
 pub others-alter-neither : (t : Tracker) → inOrderOf t ≡ true → (n x : ℕ) → OthersAlterNeither t n x
 others-alter-neither = others
@@ -92,6 +105,10 @@ joint-can-be-left = can-be-left
 pub order-comes-back : (t : Tracker) → inOrderOf t ≡ true → isEmpty (confOf (t .conf) .incoming) ≡ false → (l n : ℕ) → ComesBack t l n
 order-comes-back = order-back
 
+pub empty-configuration-comes-back : (t : Tracker) → trackerWellFormed t ≡ true → confOf (t .conf) ≡ noConf → (l n : ℕ) → EmptyComesBack t l n
+empty-configuration-comes-back t w e l n = trips.empty-comes-back t w l n e
+
+-- of a tracker in order all comes back, since there nothing else is tracked
 pub empty-comes-back : (t : Tracker) → inOrderOf t ≡ true → confOf (t .conf) ≡ noConf → (l n : ℕ) → ComesBack t l n
 empty-comes-back = empty-back
 
@@ -116,6 +133,31 @@ neighbours-share = calls-share
 -- Document 02, i): "This is to hold at each step of any sequence, restore's own steps included."
 pub neighbours-share-throughout : (t : Tracker) → inOrderOf t ≡ true → (cs : List Call) → SequenceShares t cs
 neighbours-share-throughout = sequence-shares
+
+-- Document 01: "After the check, these rules stand as a table". Of a tracker that passes the check and is not joint: a list of changes, carried out by the
+-- table, is the list as changer.rs carries it out; and each change alters only its own id.
+pub list-is-the-rust : (t : Tracker) → checkOf t .number ≡ 0 → joint (confOf (t .conf)) ≡ false → (cs : List Change) → AsTheRust (stateOf t) cs
+list-is-the-rust = listed
+
+pub list-alters-only-its-own : (t : Tracker) → checkOf t .number ≡ 0 → joint (confOf (t .conf)) ≡ false → (cs : List Change) → AltersItsOwn (stateOf t) cs
+list-alters-only-its-own = own-altered
+
+-- Document 01: "Number 13 is kept for the Rust's message but never given, since 11 or 12 comes first; that is proved." Of any tracker, any
+-- lists, any state in words, any request and any turn of a replay.
+pub never-13 : Never13
+never-13 = all-other
+
+-- Document 01: "Order: 1, 2, 3; then 4, 5 or 6; the check; 15; the changes, stopping at the first 16; 17; 18; the check again." Number and id are those of the
+-- first test that refuses: of every tracker, and through the entries.
+pub numbers-in-order : (t : Tracker) → FirstTold t
+numbers-in-order = first-told
+
+pub numbers-in-order-through-the-entries : FirstToldByEntries
+numbers-in-order-through-the-entries = entries-told
+
+-- Document 01: "Tracked is asked of the base ids with the pending log over them": the check again, which is asked of a copy of the ids, asks what the view would.
+pub copy-is-the-view : (t : Tracker) → CopyIsTheView t
+copy-is-the-view t = record { simple = simple-alike t; enter = λ auto. enter-alike t; leave = leave-alike t }
 
 -- Document 01: "That any two results allowed by it are equal is itself proved".
 pub settled : Settled

@@ -17,14 +17,19 @@ use Rattle.rules.specs.Sequences.{inTurn}
 use Rattle.rules.specs.Idle.{enterWorks, simpleWorks}
 use Rattle.rules.specs.Unplug.{quick, straight}
 use Rattle.idset.specs.Set.{held}
-use Rattle.tracker.specs.Bridge.{changeLogOf, confOf, configurationOf, listsOf, peersOf, stateOf, trackerOf}
+use Rattle.idset.specs.declared.IdSet.{IdSet}
+use Rattle.tracker.specs.Bridge.{changeLogOf, confOf, configurationOf, listsOf, logOf, peersOf, stateOf, trackerOf}
 use Rattle.tracker.specs.Apply.{verdictOf}
 use Rattle.tracker.specs.ConfStates.{writtenOf}
 use Rattle.tracker.specs.Form.{trackerWellFormed}
+use Rattle.tracker.specs.declared.ChangeLog.{ChangeLog}
 use Rattle.tracker.specs.declared.ConfState.{ConfState}
 use Rattle.tracker.specs.declared.Tracker.{Tracker}
 use Rattle.tracker.specs.declared.Outcome.{Outcome}
 use Rattle.invariants.specs.Check.{inOrderOf}
+use Rattle.changes.specs.Pending.{trackedIn}
+use Rattle.changer.specs.Before.{mayEnter, maySimple}
+use Rattle.changer.specs.Stages.{carriedIn, enteringIn, leavingIn, pendingIn, withAutoIn}
 use Rattle.changer.specs.Calls.{enterAnswer, leaveAnswer, simpleAnswer, unplugOf}
 use Rattle.changer.specs.declared.Answer.{Answer}
 use Rattle.restore.specs.Restore.{appliedTo, restoreOf, stepByStepOf}
@@ -49,6 +54,37 @@ pub record ComesBack (t : Tracker) (l n : ℕ) : Type 0 where
       → recordOf x (peersOf (held (t .ids)) (restoreOf (trackerOf (fresh l)) (writtenOf t .«conf_state») n .tracker .records)) ≡ found (freshRecord n l)
   pub inflight : restoreOf (trackerOf (fresh l)) (writtenOf t .«conf_state») n .tracker .«max_inflight» ≡ l
   pub either-name : stepByStepOf (trackerOf (fresh l)) (writtenOf t .«conf_state») n ≡ restoreOf (trackerOf (fresh l)) (writtenOf t .«conf_state») n
+
+-- Document 02, h), "So does the empty configuration", of a tracker t with that configuration, boxes that are tracked only included: written out, and
+-- restored to `Tracker::new(l)`, it comes back, by either name of restore. What is left is `Tracker::new(l)`: no list that is written holds a box that is
+-- tracked only, so none is tracked.
+pub record EmptyComesBack (t : Tracker) (l n : ℕ) : Type 0 where
+  pub written : writtenOf t .number ≡ 0
+  pub accepted : restoreOf (trackerOf (fresh l)) (writtenOf t .«conf_state») n .number ≡ 0
+  pub same : restoreOf (trackerOf (fresh l)) (writtenOf t .«conf_state») n .tracker .conf ≡ t .conf
+  pub left : restoreOf (trackerOf (fresh l)) (writtenOf t .«conf_state») n .tracker ≡ trackerOf (fresh l)
+  pub either-name : stepByStepOf (trackerOf (fresh l)) (writtenOf t .«conf_state») n ≡ restoreOf (trackerOf (fresh l)) (writtenOf t .«conf_state») n
+
+-- Demand 3, "apply each accepted answer at once to the state it was asked of": of any tracker t, in order or not, an answer with number 0 is applied with
+-- number 0, whatever the `next_idx`.
+pub record AcceptedIsApplied (t : Tracker) : Type 0 where
+  pub simple : (ids kinds : List ℕ) (n : ℕ) → simpleAnswer t ids kinds .number ≡ 0 → appliedTo t (simpleAnswer t ids kinds) n .number ≡ 0
+  pub enter : (auto : Bool) (ids kinds : List ℕ) (n : ℕ) → enterAnswer t auto ids kinds .number ≡ 0 → appliedTo t (enterAnswer t auto ids kinds) n .number ≡ 0
+  pub leave : (n : ℕ) → leaveAnswer t .number ≡ 0 → appliedTo t (leaveAnswer t) n .number ≡ 0
+
+-- The check again: changer.rs asks its view of the base ids, the code a copy of the tracked ids with the log over them. Every id x is in the copy just where
+-- the view over the same ids, with the log and its count, answers that it is tracked.
+abbrev pub CopyIsView : IdSet → ChangeLog → Type 0
+CopyIsView tracked log = (x : ℕ) → memb x (held (pendingIn (logOf log) tracked)) ≡ trackedIn (held tracked) (log .count) log x
+
+-- So it is of each call of t that comes to the check again: past the tests before, and with the list carried out and a voter left. A leave has no list,
+-- and of it only well formed is asked.
+pub record CopyIsTheView (t : Tracker) : Type 0 where
+  pub simple : (ids kinds : List ℕ) → maySimple t ids kinds .number ≡ 0 → carriedIn (t .ids) (t .conf) ids kinds .number ≡ 0
+      → CopyIsView (t .ids) (carriedIn (t .ids) (t .conf) ids kinds .log)
+  pub enter : (auto : Bool) (ids kinds : List ℕ) → mayEnter t ids kinds .number ≡ 0 → carriedIn (t .ids) (enteringIn (t .conf)) ids kinds .number ≡ 0
+      → CopyIsView (t .ids) (withAutoIn auto (carriedIn (t .ids) (enteringIn (t .conf)) ids kinds) .log)
+  pub leave : trackerWellFormed t ≡ true → CopyIsView (t .ids) (leavingIn (t .conf) .log)
 
 -- Demand 1: "A refused call gives the number .., with state and lent memory untouched." Document 02, b): "a refused call gives 0".
 abbrev pub AnswerUntouched : Tracker → Answer → Type 0

@@ -2,5 +2,6 @@ pub mod Sequences
 pub mod Demands
 pub mod Statements
 pub mod Neighbours
+pub mod Numbers
 pub mod Wrong
 pub mod WrongNeighbours

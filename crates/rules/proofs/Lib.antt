@@ -19,7 +19,9 @@ pub mod Table
 pub mod Numbers
 pub mod Thirteen
 pub mod Accept
+pub mod Rust
 pub mod Singles
 pub mod Unplug
 pub mod RoundTrip
+pub mod Empty
 pub mod Theorems

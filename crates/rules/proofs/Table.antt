@@ -3,13 +3,14 @@ use Prim.Native.Nat.{ℕ}
 use mathlib.Core.Path.{_≡_, refl, ap, _∙_, sym}
 use mathlib.Core.Bool.{Bool, true, false, _&&_, _||_, not, cond, true≢false}
 use mathlib.Core.List.{List, _++_, append-nil}
-use lib.Dec.{eqb}
+use lib.Dec.{eqb, leb}
+use lib.ListN.{length}
 use Rattle.progress.specs.declared.Progress.{Progress}
 use Rattle.rules.specs.Ids.{ascending, insertId, memb, removeId}
-use Rattle.rules.specs.State.{Change, Kind, Peer, addLearner, addNode, ids, removeNode}
-use Rattle.rules.specs.Table.{Effect, I, IO, L, O, OS, Places, Standing, idle, none, place, placesIn, placesOf, put, table}
-use Rattle.rules.specs.Changes.{Work, change, done, logged, pendingTracked}
-use Rattle.rules.specs.Rust.{byKind, work}
+use Rattle.rules.specs.State.{Change, Conf, Entry, Kind, Peer, addLearner, addNode, ids, removeNode}
+use Rattle.rules.specs.Table.{Effect, I, IO, L, O, OS, Places, Standing, adds, idle, none, place, placesIn, placesOf, put, removes, stays, table}
+use Rattle.rules.specs.Changes.{Work, change, done, full, logged, pending, pendingTracked}
+use Rattle.rules.specs.Rust.{byKind, rustChange, tracks, work}
 use Rattle.rules.proofs.Sets.{ascending-ext, ascending-insert, ascending-remove, insert-same, memb-insert, memb-remove, remove-none}
 use Rattle.rules.proofs.Changes.{Fine, entries, here, logged-done, tracked-now}
 
@@ -54,6 +55,75 @@ module _ (x : ℕ) (t : Bool) (w : Work) (i : ascending (w .conf .incoming) ≡ 
   table-agrees OS addNode q = rw (ap (λ (p : Places). p .tracked) q, append-nil)
   table-agrees OS addLearner q = rw (ap (λ (p : Places). p .tracked) q, ap (λ (p : Places). p .learner) q, ap (λ (p : Places). p .outgoing) q, append-nil, insert-remove x (w .conf .staged) g)
   table-agrees OS removeNode q = rw (ap (λ (p : Places). p .tracked) q, ap (λ (p : Places). p .outgoing) q, append-nil)
+
+-- ** 16
+
+abbrev isAdds : Effect → Bool
+isAdds stays = false
+isAdds adds = true
+isAdds removes = false
+
+-- an Add is logged where an untracked id is to be tracked
+adds-where : (st : Standing) (k : Kind) → isAdds (table st k .1) ≡ not (placesOf st .tracked) && tracks k
+unfolding table
+adds-where none addNode = refl
+adds-where none addLearner = refl
+adds-where none removeNode = refl
+adds-where idle addNode = refl
+adds-where idle addLearner = refl
+adds-where idle removeNode = refl
+adds-where I addNode = refl
+adds-where I addLearner = refl
+adds-where I removeNode = refl
+adds-where L addNode = refl
+adds-where L addLearner = refl
+adds-where L removeNode = refl
+adds-where O addNode = refl
+adds-where O addLearner = refl
+adds-where O removeNode = refl
+adds-where IO addNode = refl
+adds-where IO addLearner = refl
+adds-where IO removeNode = refl
+adds-where OS addNode = refl
+adds-where OS addLearner = refl
+adds-where OS removeNode = refl
+
+logged-is : (e : Effect) (base : List ℕ) (x : ℕ) (c : Conf) (log : List Entry)
+    → logged e base x c log ≡ cond (isAdds e && leb 64 (length (pending log base))) (full x) (done (work c (log ++ entries e x)))
+logged-is stays base x c log = rw append-nil
+logged-is adds base x c log = refl
+logged-is removes base x c log = refl
+
+-- ** One change
+
+-- by the table it is what the Rust does
+pub change-is : (r : Progress) (ps : List Peer) (up : ascending (ids ps) ≡ true) (c : Change) (w : Work) → Fine r ps up w → change (ids ps) c w ≡ rustChange (ids ps) c w
+unfolding change rustChange
+change-is r ps up c w f = go (eqb (c .id) 0)
+  where
+    st : Standing
+    st = here r ps up c w f
+
+    t : Bool
+    t = pendingTracked (ids ps) (w .log) (c .id)
+
+    q : placesIn t (w .conf) (c .id) ≡ placesOf st
+    q = rw (tracked-now r ps up w (c .id)) (f .sound .stands (c .id))
+
+    agrees : byKind (c .kind) t (c .id) w ≡ work (place (c .id) (table st (c .kind) .0) (w .conf)) (w .log ++ entries (table st (c .kind) .1) (c .id))
+    agrees = table-agrees (c .id) t w (f .sound .incoming↑) (f .sound .learners↑) (f .sound .staged↑) st (c .kind) q
+
+    room : isAdds (table st (c .kind) .1) ≡ not t && tracks (c .kind)
+    room = adds-where st (c .kind) ∙ ap (λ (p : Places). not (p .tracked) && tracks (c .kind)) (sym q)
+
+    go : (b : Bool)
+        → cond b (done w) (logged (table st (c .kind) .1) (ids ps) (c .id) (place (c .id) (table st (c .kind) .0) (w .conf)) (w .log))
+        ≡ cond b (done w) (cond (not t && tracks (c .kind) && leb 64 (length (pending (w .log) (ids ps)))) (full (c .id)) (done (byKind (c .kind) t (c .id) w)))
+    go true = refl
+    go false =
+        logged-is (table st (c .kind) .1) (ids ps) (c .id) (place (c .id) (table st (c .kind) .0) (w .conf)) (w .log)
+        ∙ ap (λ (a : Bool). cond (a && leb 64 (length (pending (w .log) (ids ps)))) (full (c .id)) (done (work (place (c .id) (table st (c .kind) .0) (w .conf)) (w .log ++ entries (table st (c .kind) .1) (c .id))))) room
+        ∙ ap (λ (v : Work). cond (not t && tracks (c .kind) && leb 64 (length (pending (w .log) (ids ps)))) (full (c .id)) (done v)) (sym agrees)
 
 -- what a change that is not skipped and not refused leaves is what the Rust's operation of its kind leaves
 pub change-agrees : (r : Progress) (ps : List Peer) (up : ascending (ids ps) ≡ true) (c : Change) (w v : Work) → Fine r ps up w → eqb (c .id) 0 ≡ false

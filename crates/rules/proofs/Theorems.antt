@@ -1,31 +1,29 @@
 -- What is claimed of the rules, one theorem after the other, for the reader. The P examples are specs/Examples.antt. Assumes nothing.
 use Prim.Native.Nat.{ℕ, _-_, _≤_}
-use mathlib.Core.Path.{_≡_, ap, _∙_, sym}
-use mathlib.Core.Bool.{Bool, true, false, _&&_, not, cond}
+use mathlib.Core.Path.{_≡_, ap}
+use mathlib.Core.Bool.{Bool, true, false}
 use mathlib.Core.List.{List, [], _∷_, _++_}
 use native.Mathlib.Omega.{arith}
 use lib.Dec.{eqb}
 use lib.ListN.{length}
 use Rattle.progress.specs.declared.Progress.{Progress}
 use Rattle.rules.specs.Ids.{memb, ascending, isEmpty}
-use Rattle.rules.specs.State.{Conf, ConfState, Peer, State, ids, members, fresh, noConf, Change, Entry}
+use Rattle.rules.specs.State.{Conf, ConfState, Peer, State, ids, formed, members, fresh, noConf, Change, Entry}
 use Rattle.rules.specs.Answers.{ok, fault, accepted}
 use Rattle.rules.specs.Check.{check, isTracked, inOrder, joint}
-use Rattle.rules.specs.Table.{placesOf, placesIn}
+use Rattle.rules.specs.Table.{placesIn}
 use Rattle.rules.specs.Changes.{pendingTracked, Work, done, change}
 use Rattle.rules.specs.Calls.{listOf, simple, enterJoint, gone, leaveJoint, leaving, removals}
 use Rattle.rules.specs.Idle.{enterIdles, enterWorks, simpleIdles, simpleWorks}
 use Rattle.rules.specs.Apply.{applyConf}
 use Rattle.rules.specs.Restore.{Step, simpleStep, enterStep, leaveStep}
 use Rattle.rules.specs.Sequences.{Call, perform, afterCalls}
-use Rattle.rules.specs.Boxes.{Box, changeBox, naming}
+use Rattle.rules.specs.Boxes.{naming}
 use Rattle.rules.specs.Unplug.{quick, straight, unplug}
 use Rattle.rules.specs.Quorum.{CallsShare, Group, SequenceShares, quorum}
 use Rattle.rules.specs.Rust.{byKind}
-use Rattle.rules.specs.Demands.{Kept, ComesBack, Whole}
-use Rattle.rules.proofs.Plain.{changesBox}
-use Rattle.rules.proofs.Boxes.{boxAt}
-use Rattle.rules.proofs.Changes.{now, Fine, After, change-done, tracked-now}
+use Rattle.rules.specs.Demands.{AltersItsOwn, AsTheRust, ComesBack, EmptyComesBack, Kept, Whole}
+use Rattle.rules.proofs.Changes.{Fine}
 use Rattle.rules.proofs.Steps.{Ordered}
 use Rattle.rules.proofs.Order.{formed-of, ordered-of}
 use Rattle.rules.proofs.Accept.{leave-accepted}
@@ -35,8 +33,10 @@ use Rattle.rules.proofs.Whole.{whole}
 use Rattle.rules.proofs.Quorum.{voterless}
 use Rattle.rules.proofs.Demand3.{Taken, calls-share, demand-3, enter-taken, leave-taken, others-alter-nothing, sequence-shares, simple-taken}
 use Rattle.rules.proofs.Table.{change-agrees}
+use Rattle.rules.proofs.Rust.{alters-its-own, as-the-rust, only-its-own}
 use Rattle.rules.proofs.Thirteen.{check-never-13, call-never-13}
 use Rattle.rules.proofs.Unplug.{unplug-quick, unplug-straight}
+use Rattle.rules.proofs.Empty.{empty-back}
 use Rattle.rules.proofs.RoundTrip.{empty-trip, fresh-in-order, order-trip, round-trip}
 
 -- ** Number 13 is never given
@@ -58,13 +58,15 @@ table-is-the-rust = change-agrees
 pub change-alters-only-its-own : (r : Progress) (ps : List Peer) (up : ascending (ids ps) ≡ true) (c : Change) (w v : Work) → Fine r ps up w
     → change (ids ps) c w ≡ done v → (y : ℕ) → eqb (c .id) y ≡ false
     → placesIn (pendingTracked (ids ps) (v .log) y) (v .conf) y ≡ placesIn (pendingTracked (ids ps) (w .log) y) (w .conf) y
-unfolding changesBox
-change-alters-only-its-own r ps up c w v f h y e =
-    let a : After r ps up (c ∷ []) w v = change-done r ps up c w v h f in
-    let b : boxAt (v .conf) (now r ps up v) y ≡ boxAt (w .conf) (now r ps up w) y =
-    a .boxes y ∙ ap (λ (t : Bool). cond (t && not (eqb y 0)) (changeBox r (c .kind) (boxAt (w .conf) (now r ps up w) y)) (boxAt (w .conf) (now r ps up w) y)) e in
-    rw (tracked-now r ps up v y, tracked-now r ps up w y)
-    (a .fine .sound .stands y ∙ ap (λ (x : Box). placesOf (x .standing)) b ∙ sym (f .sound .stands y))
+change-alters-only-its-own = only-its-own
+
+-- Every change that `simple` and `enter_joint` carry out meets such a work (`Fine`): said of the lists themselves, from any well-formed state that
+-- passed the check and is not joint, boxes that are tracked only and an id 0 included. Since it is said of every list it is so step by step.
+pub list-is-the-rust : (s : State) → formed s ≡ true → check (isTracked s) (s .conf) ≡ ok → joint (s .conf) ≡ false → (cs : List Change) → AsTheRust s cs
+list-is-the-rust = as-the-rust
+
+pub list-alters-only-its-own : (s : State) → formed s ≡ true → check (isTracked s) (s .conf) ≡ ok → joint (s .conf) ≡ false → (cs : List Change) → AltersItsOwn s cs
+list-alters-only-its-own = alters-its-own
 
 -- ** An accepted answer is applied
 
@@ -119,7 +121,11 @@ joint-can-be-left s h j =
 pub order-comes-back : (s : State) → inOrder s ≡ true → isEmpty (s .conf .incoming) ≡ false → (l n : ℕ) → ComesBack s l n
 order-comes-back = order-trip
 
--- "So does the empty configuration."
+-- "So does the empty configuration": of any well-formed state
+pub empty-configuration-comes-back : (s : State) → formed s ≡ true → s .conf ≡ noConf → (l n : ℕ) → EmptyComesBack s l n
+empty-configuration-comes-back = empty-back
+
+-- and of a state in order all comes back, since there nothing else is tracked
 pub empty-comes-back : (s : State) → inOrder s ≡ true → s .conf ≡ noConf → (l n : ℕ) → ComesBack s l n
 empty-comes-back = empty-trip
 

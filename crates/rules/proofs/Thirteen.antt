@@ -7,7 +7,7 @@ use lib.Dec.{eqb, leb}
 use lib.ListN.{length}
 use Rattle.rules.specs.Ids.{insertAll, isEmpty, memb}
 use Rattle.rules.specs.State.{logFormed, Conf, ConfState, Entry, State, add, confFormed, formed, ids, remove}
-use Rattle.rules.specs.Answers.{Answer, Outcome, Verdict, _⇒_, _▸_, accepted, each, fault, ok, refuse, refused, settle}
+use Rattle.rules.specs.Answers.{Answer, Outcome, Verdict, _▸_, accepted, each, fault, ok, refuse, refused, settle}
 use Rattle.rules.specs.Check.{check, joint}
 use Rattle.rules.specs.Calls.{enterJoint, enterOf, leaveJoint, leaveOf, listOf, readable, simple, simpleOf}
 use Rattle.rules.specs.Apply.{applied, applyConf, room}
@@ -16,7 +16,7 @@ use Rattle.rules.specs.Sequences.{Call, enterCall, leaveCall, perform, r
 use Rattle.rules.proofs.Numbers.{Numbered, NumberedAnswer, asked-numbered, each-numbered, given-numbered, readable-numbered, refuse-numbered, then-numbered}
 
 -- any number but 13
-abbrev Other : ℕ → Type 0
+abbrev pub Other : ℕ → Type 0
 Other n = eqb n 13 ≡ false
 
 each-staged : (t m : ℕ → Bool) (xs : List ℕ) → Numbered Other (each (λ x. refuse (not (t x)) 11 x ▸ refuse (not (m x)) 12 x) xs)
@@ -37,7 +37,7 @@ module _ (t : ℕ → Bool) (outgoing : List ℕ) (quiet : Verdict) (q : Numbere
   staged-other (x ∷ xs) (o ∷ os) e =
       then-numbered Other (each (λ y. refuse (not (t y)) 11 y ▸ refuse (not (memb y (o ∷ os))) 12 y) (x ∷ xs)) quiet (each-staged t (λ y. memb y (o ∷ os)) (x ∷ xs)) q
 
-check-other : (t : ℕ → Bool) (c : Conf) → Numbered Other (check t c)
+pub check-other : (t : ℕ → Bool) (c : Conf) → Numbered Other (check t c)
 unfolding check
 check-other t c =
     then-numbered Other _ _ (each-numbered Other _ (λ x. refuse-numbered Other (not (t x)) 7 x refl) (insertAll (c .incoming) (c .outgoing)))
@@ -66,14 +66,16 @@ settle-other : (v : Verdict) (s t : State) → Numbered Other v → Numbered Oth
 settle-other ok s t h = h
 settle-other (fault n x) s t h = h
 
-applied-other : (b : Bool) (log : List Entry) (base : List ℕ) → Numbered Other (refuse b 1 0 ▸ room log base)
-applied-other b log base = then-numbered Other _ _ (refuse-numbered Other b 1 0 refl) (room-other log base)
+pub apply-other : (s : State) (c : Conf) (log : List Entry) (n : ℕ) → Numbered Other (applyConf s c log n .verdict)
+unfolding applyConf
+apply-other s c log n =
+    let ill : Bool = not (formed s) || not (confFormed c) || not (logFormed log) in
+    settle-other (refuse ill 1 0 ▸ room log (ids (s .peers))) s (applied s c log n)
+    (then-numbered Other (refuse ill 1 0) (room log (ids (s .peers))) (refuse-numbered Other ill 1 0 refl) (room-other log (ids (s .peers))))
 
 answer-other : (n : ℕ) (s : State) (a : Answer) → NumberedAnswer Other a → Numbered Other (applyAnswer s n a .verdict)
-unfolding applyConf Numbered NumberedAnswer
-answer-other n s (accepted c log) h =
-    let ill : Bool = not (formed s) || not (confFormed c) || not (logFormed log) in
-    settle-other (refuse ill 1 0 ▸ room log (ids (s .peers))) s (applied s c log n) (applied-other ill log (ids (s .peers)))
+unfolding Numbered NumberedAnswer
+answer-other n s (accepted c log) h = apply-other s c log n
 answer-other n s (refused m x) h = h
 
 run-other : (n : ℕ) (ps : List Step) (s : State) → Numbered Other (run n s ps .verdict)
@@ -94,7 +96,21 @@ ill-other s = refuse-numbered Other (not (formed s)) 1 0 refl
 before-other : (s : State) (xs ks : List ℕ) → Numbered Other (refuse (not (formed s)) 1 0 ▸ readable xs ks)
 before-other s xs ks = then-numbered Other (refuse (not (formed s)) 1 0) (readable xs ks) (ill-other s) (readable-numbered Other refl refl xs ks)
 
-steps-other : (s : State) (cs : ConfState) (n : ℕ) → Numbered Other (restoreStepByStep s cs n .verdict)
+-- ** Each call
+
+pub simple-other : (s : State) (xs ks : List ℕ) → NumberedAnswer Other (simple s xs ks)
+unfolding simple ask
+simple-other s xs ks = given-numbered Other (refuse (not (formed s)) 1 0 ▸ readable xs ks) (simpleOf s (listOf xs ks)) (before-other s xs ks) (ask-other s (simpleStep (listOf xs ks)))
+
+pub enter-other : (s : State) (auto : Bool) (xs ks : List ℕ) → NumberedAnswer Other (enterJoint s auto xs ks)
+unfolding enterJoint ask
+enter-other s auto xs ks = given-numbered Other (refuse (not (formed s)) 1 0 ▸ readable xs ks) (enterOf s auto (listOf xs ks)) (before-other s xs ks) (ask-other s (enterStep auto (listOf xs ks)))
+
+pub leave-other : (s : State) → NumberedAnswer Other (leaveJoint s)
+unfolding leaveJoint ask
+leave-other s = given-numbered Other (refuse (not (formed s)) 1 0) (leaveOf s) (ill-other s) (ask-other s leaveStep)
+
+pub steps-other : (s : State) (cs : ConfState) (n : ℕ) → Numbered Other (restoreStepByStep s cs n .verdict)
 unfolding restoreStepByStep restorable
 steps-other s cs n = go (restorable s cs) (then-numbered Other _ _ (ill-other s) (refuse-numbered Other long 2 0 refl))
   where
@@ -105,14 +121,16 @@ steps-other s cs n = go (restorable s cs) (then-numbered Other _ _ (ill-other s)
     go ok e = run-other n (restoreSteps cs) s
     go (fault m y) e = e
 
+pub restore-other : (s : State) (cs : ConfState) (n : ℕ) → Numbered Other (restore s cs n .verdict)
+unfolding restore
+restore-other s cs n = settle-other (restoreStepByStep s cs n .verdict) s (restoreStepByStep s cs n .state) (steps-other s cs n)
+
 call-other : (s : State) (c : Call) → Numbered Other (perform s c .verdict)
-unfolding perform simple enterJoint leaveJoint restore ask
-call-other s (simpleCall xs ks n) =
-    answer-other n s (refuse (not (formed s)) 1 0 ▸ readable xs ks ⇒ simpleOf s (listOf xs ks)) (given-numbered Other _ _ (before-other s xs ks) (ask-other s (simpleStep (listOf xs ks))))
-call-other s (enterCall auto xs ks n) =
-    answer-other n s (refuse (not (formed s)) 1 0 ▸ readable xs ks ⇒ enterOf s auto (listOf xs ks)) (given-numbered Other _ _ (before-other s xs ks) (ask-other s (enterStep auto (listOf xs ks))))
-call-other s (leaveCall n) = answer-other n s (refuse (not (formed s)) 1 0 ⇒ leaveOf s) (given-numbered Other _ _ (ill-other s) (ask-other s leaveStep))
-call-other s (restoreCall cs n) = settle-other (restoreStepByStep s cs n .verdict) s (restoreStepByStep s cs n .state) (steps-other s cs n)
+unfolding perform
+call-other s (simpleCall xs ks n) = answer-other n s (simple s xs ks) (simple-other s xs ks)
+call-other s (enterCall auto xs ks n) = answer-other n s (enterJoint s auto xs ks) (enter-other s auto xs ks)
+call-other s (leaveCall n) = answer-other n s (leaveJoint s) (leave-other s)
+call-other s (restoreCall cs n) = restore-other s cs n
 call-other s (stepByStepCall cs n) = steps-other s cs n
 
 -- no call gives 13

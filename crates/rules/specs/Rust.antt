@@ -1,10 +1,12 @@
--- `make_voter`, `make_learner` and `remove` of changer.rs, line by line, on sets and the pending log. Assumes nothing.
+-- `make_voter`, `make_learner`, `remove` and the list of `apply` of changer.rs, line by line, on sets and the pending log. Assumes nothing.
 use Prim.Native.Nat.{ℕ}
-use mathlib.Core.Bool.{Bool, not, cond}
+use mathlib.Core.Bool.{Bool, true, false, _&&_, not, cond}
 use mathlib.Core.List.{List, [], _∷_, _++_}
+use lib.Dec.{eqb, leb}
+use lib.ListN.{length}
 use Rattle.rules.specs.Ids.{insertId, memb, removeId}
-use Rattle.rules.specs.State.{Conf, Entry, Kind, add, addLearner, addNode, remove, removeNode}
-use Rattle.rules.specs.Changes.{Work}
+use Rattle.rules.specs.State.{Change, Conf, Entry, Kind, add, addLearner, addNode, remove, removeNode}
+use Rattle.rules.specs.Changes.{Done, Work, andThen, done, full, pending, pendingTracked}
 
 abbrev pub onIncoming : (List ℕ → List ℕ) → Conf → Conf
 onIncoming f c = record { incoming = f (c .incoming); outgoing = c .outgoing; learners = c .learners; staged = c .staged; autoLeave = c .autoLeave }
@@ -51,3 +53,26 @@ abbrev pub byKind : Kind → Bool → ℕ → Work → Work
 byKind addNode = makeVoter
 byKind addLearner = makeLearner
 byKind removeNode = removeOp
+
+-- ** A list
+
+-- a change of this kind tracks an id that is not: `make_voter` and `make_learner` do, by `init_progress`, and `remove` does not
+abbrev pub tracks : Kind → Bool
+tracks addNode = true
+tracks addLearner = true
+tracks removeNode = false
+
+-- if cc.node_id == 0 { continue; }
+-- match cc.get_change_type() { AddNode => make_voter(..), AddLearnerNode => make_learner(..), RemoveNode => remove(..) }
+-- The one rule that is added is 16, "an untracked id to be tracked while 64 are".
+unfoldable pub rustChange : List ℕ → Change → Work → Done
+rustChange base c w =
+    cond (eqb (c .id) 0) (done w)
+    (let tracked : Bool = pendingTracked base (w .log) (c .id) in
+    cond (not tracked && tracks (c .kind) && leb 64 (length (pending (w .log) base))) (full (c .id))
+    (done (byKind (c .kind) tracked (c .id) w)))
+
+-- for cc in ccs { .. }, stopping at the first 16
+unfoldable pub rustChanges : List ℕ → List Change → Work → Done
+rustChanges base [] w = done w
+rustChanges base (c ∷ cs) w = andThen (rustChange base c w) (λ v. rustChanges base cs v)
