@@ -19,7 +19,9 @@ use Rattle.idset.proofs.«zero_from».Reads as idset-zero-from
 use Rattle.idset.proofs.seek.Reads as idset-seek
 use Rattle.idset.proofs.«stands_at».Reads as idset-stands-at
 use Rattle.idset.proofs.«next_of».Reads as idset-next-of
+use Rattle.idset.proofs.«is_past».Reads as idset-is-past
 use Rattle.idset.proofs.«two_apart».Reads as idset-two-apart
+use Rattle.idset.proofs.«dimecandle_two_apart».Reads as idset-dimecandle-two-apart
 use Rattle.tracker.proofs.Configuration.new.Reads as tracker-configuration-new
 use Rattle.tracker.proofs.ChangeLog.new.Reads as tracker-log-new
 use Rattle.tracker.proofs.ConfState.new.Reads as tracker-conf-state-new
@@ -29,6 +31,7 @@ use Rattle.tracker.proofs.ChangeLog.«is_malformed».Reads as tracker-log-is-ma
 use Rattle.tracker.proofs.Tracker.«is_malformed».Reads as tracker-tracker-is-malformed
 use Rattle.tracker.proofs.MapChange.«is_blank».Reads as tracker-is-blank
 use Rattle.tracker.proofs.apply.apply.Reads as tracker-apply
+use Rattle.tracker.proofs.apply.applied.Reads as tracker-applied
 use Rattle.tracker.proofs.apply.refused.Reads as tracker-refused
 use Rattle.tracker.proofs.Tracker.«to_conf_state».Reads as tracker-to-conf-state
 use Rattle.invariants.proofs.joint.Reads as invariants-joint
@@ -36,9 +39,7 @@ use Rattle.invariants.proofs.«check_invariants».Reads as invariants-check-inv
 use Rattle.invariants.proofs.«check_voters».Reads as invariants-check-voters
 use Rattle.invariants.proofs.«check_learners».Reads as invariants-check-learners
 use Rattle.invariants.proofs.«check_staged».Reads as invariants-check-staged
-use Rattle.invariants.proofs.«check_single».Reads as invariants-check-single
-use Rattle.invariants.proofs.«first_out».Reads as invariants-first-out
-use Rattle.invariants.proofs.«first_in».Reads as invariants-first-in
+use Rattle.invariants.proofs.«first_where».Reads as invariants-first-where
 use Rattle.invariants.proofs.check.Reads as invariants-check
 use Rattle.invariants.proofs.«in_order».Reads as invariants-in-order
 use Rattle.changes.proofs.apply.Reads as changes-apply
@@ -97,7 +98,9 @@ pub record Sets : Type 0 where
   pub seek : Settles idset-seek.Learnt
   pub stands-at : Settles idset-stands-at.Learnt
   pub next-of : Settles idset-next-of.Learnt
+  pub is-past : Settles idset-is-past.Learnt
   pub two-apart : Settles idset-two-apart.Learnt
+  pub dimecandle-two-apart : Settles idset-dimecandle-two-apart.Learnt
 
 pub idset : Sets
 idset = search equation
@@ -117,6 +120,7 @@ pub record Trackers : Type 0 where
   pub apply-conf : Settles apply-conf-says
   -- and what the lent tracker holds at exit
   pub apply-conf-exit : (κs : _) (a : _) (z y : _) (e d : _) → apply-conf-says κs a z e → apply-conf-says κs a y d → now (e .0) ≡ now (d .0)
+  pub applied : Settles tracker-applied.Learnt
   pub refused : Settles tracker-refused.Learnt
   pub to-conf-state : Settles tracker-to-conf-state.Learnt
 
@@ -137,9 +141,7 @@ pub record Invariants : Type 0 where
   pub check-voters : Settles invariants-check-voters.Learnt
   pub check-learners : Settles invariants-check-learners.Learnt
   pub check-staged : Settles invariants-check-staged.Learnt
-  pub check-single : Settles invariants-check-single.Learnt
-  pub first-out : Settles invariants-first-out.Learnt
-  pub first-in : Settles invariants-first-in.Learnt
+  pub first-where : Settles invariants-first-where.Learnt
   pub check : Settles invariants-check.Learnt
   pub in-order : Settles invariants-in-order.Learnt
 

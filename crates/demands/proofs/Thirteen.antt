@@ -29,7 +29,7 @@ use Rattle.tracker.specs.declared.ConfState.{ConfState}
 use Rattle.tracker.specs.declared.Configuration.{Configuration}
 use Rattle.tracker.specs.declared.Outcome.{Outcome}
 use Rattle.tracker.specs.declared.Tracker.{Tracker}
-use Rattle.invariants.specs.Check.{checkOf, checkWalk, learnersWalk, stagedWalk, votersWalk}
+use Rattle.invariants.specs.Check.{checkOf, checkWalk, learnersWalk, restWalk, stagedWalk, votersWalk}
 use Rattle.invariants.specs.Walk.{First, faultAt, first, firstIn, firstOut, nobody, sooner}
 use Rattle.changer.specs.Calls.{answerOf, enterAnswer, ifFormed, leaveAnswer, simpleAnswer, unplugOf}
 use Rattle.changer.specs.declared.Answer.{Answer}
@@ -103,22 +103,20 @@ module _ (x : ℕ) (f : First) where
           less true = refl
           less false = refl
 
+-- 11, 12, 13, 14: where 13 would be given, 11 or 12 came first
+rest-other : (tracked outgoing staged : List ℕ) (auto : Bool) → Numbered Other (restWalk tracked outgoing staged auto)
+unfolding firstOut firstIs rank Numbered
+rest-other tracked [] [] auto = refuse-numbered Other auto 14 0 refl
+rest-other tracked [] (x ∷ xs) auto = found-other x (firstOut (x ∷ xs) tracked) _
+rest-other tracked (o ∷ os) [] auto = tt
+rest-other tracked (o ∷ os) (x ∷ xs) auto = then-numbered Other (stagedWalk tracked (o ∷ os) (x ∷ xs)) _ (staged-other tracked (o ∷ os) (x ∷ xs)) tt
+
 walk-other : (tracked incoming outgoing learners staged : List ℕ) (auto : Bool)
     → Numbered Other (checkWalk tracked (record { incoming = incoming; outgoing = outgoing; learners = learners; staged = staged; autoLeave = auto }))
-unfolding checkWalk firstOut firstIs rank Numbered
-walk-other tracked incoming [] learners [] auto =
-    then-numbered Other (votersWalk tracked incoming []) _ (voters-other tracked incoming [])
-    (then-numbered Other (learnersWalk tracked incoming [] learners) _ (learners-other tracked incoming [] learners) (refuse-numbered Other auto 14 0 refl))
-walk-other tracked incoming [] learners (x ∷ xs) auto =
-    then-numbered Other (votersWalk tracked incoming []) _ (voters-other tracked incoming [])
-    (then-numbered Other (learnersWalk tracked incoming [] learners) _ (learners-other tracked incoming [] learners) (found-other x (firstOut (x ∷ xs) tracked) _))
-walk-other tracked incoming (o ∷ os) learners [] auto =
-    then-numbered Other (votersWalk tracked incoming (o ∷ os)) _ (voters-other tracked incoming (o ∷ os))
-    (then-numbered Other (learnersWalk tracked incoming (o ∷ os) learners) _ (learners-other tracked incoming (o ∷ os) learners) tt)
-walk-other tracked incoming (o ∷ os) learners (x ∷ xs) auto =
-    then-numbered Other (votersWalk tracked incoming (o ∷ os)) _ (voters-other tracked incoming (o ∷ os))
-    (then-numbered Other (learnersWalk tracked incoming (o ∷ os) learners) _ (learners-other tracked incoming (o ∷ os) learners)
-    (then-numbered Other (stagedWalk tracked (o ∷ os) (x ∷ xs)) _ (staged-other tracked (o ∷ os) (x ∷ xs)) tt))
+unfolding checkWalk
+walk-other tracked incoming outgoing learners staged auto =
+    then-numbered Other (votersWalk tracked incoming outgoing) (learnersWalk tracked incoming outgoing learners ▸ restWalk tracked outgoing staged auto) (voters-other tracked incoming outgoing)
+    (then-numbered Other (learnersWalk tracked incoming outgoing learners) (restWalk tracked outgoing staged auto) (learners-other tracked incoming outgoing learners) (rest-other tracked outgoing staged auto))
 
 -- ** Answers and outcomes
 
@@ -241,7 +239,7 @@ all-other =
       check-invariants = λ ids c. said (checkWalk (held ids) (confOf c)) (walk-other (held ids) (held (c .incoming)) (held (c .outgoing)) (held (c .learners)) (held (c .«learners_next»)) (c .«auto_leave»));
       check-voters = λ a b c. said (votersWalk a b c) (voters-other a b c);
       check-learners = λ a b c d. said (learnersWalk a b c d) (learners-other a b c d);
-      check-staged = λ a b c. said (stagedWalk a b c) (staged-other a b c);
+      check-staged = λ a b c d. said (restWalk a b c d) (rest-other a b c d);
       simple = simply;
       enter = entered;
       leave = left;

@@ -34,7 +34,7 @@ use Rattle.tracker.specs.declared.Outcome.{Outcome}
 use Rattle.tracker.specs.declared.Tracker.{Tracker}
 use Rattle.tracker.specs.declared.Verdict as struct
 use Rattle.tracker.specs.declared.Written.{Written}
-use Rattle.invariants.specs.Check.{checkOf, checkWalk, learnersWalk, stagedWalk, votersWalk}
+use Rattle.invariants.specs.Check.{checkOf, checkWalk, learnersWalk, restWalk, votersWalk}
 use Rattle.changer.specs.Calls.{enterAnswer, leaveAnswer, simpleAnswer, unplugOf}
 use Rattle.changer.specs.declared.Answer.{Answer}
 use Rattle.restore.specs.Restore.{appliedTo, restoreOf, stepByStepOf, tooLong, wholeOf}
@@ -62,12 +62,12 @@ pub record Never13 : Type 0 where
   pub check-invariants : (ids : IdSet) (c : Configuration) → Not13 (verdictOf (checkWalk (held ids) (confOf c)) .number)
   pub check-voters : (tracked incoming outgoing : List ℕ) → Not13 (verdictOf (votersWalk tracked incoming outgoing) .number)
   pub check-learners : (tracked incoming outgoing learners : List ℕ) → Not13 (verdictOf (learnersWalk tracked incoming outgoing learners) .number)
-  pub check-staged : (tracked outgoing staged : List ℕ) → Not13 (verdictOf (stagedWalk tracked outgoing staged) .number)
+  pub check-staged : (tracked outgoing staged : List ℕ) (auto : Bool) → Not13 (verdictOf (restWalk tracked outgoing staged auto) .number)
   -- changer
   pub simple : (t : Tracker) (ids kinds : List ℕ) → Not13 (simpleAnswer t ids kinds .number)
   pub enter : (t : Tracker) (auto : Bool) (ids kinds : List ℕ) → Not13 (enterAnswer t auto ids kinds .number)
   pub leave : (t : Tracker) → Not13 (leaveAnswer t .number)
-  -- tracker: apply and apply_conf; to_conf_state
+  -- tracker: apply, apply_conf and applied; to_conf_state
   pub apply : (t : Tracker) (c : Configuration) (log : ChangeLog) (n : ℕ) → Not13 (applyOf t c log n .number)
   pub to-conf-state : (t : Tracker) → Not13 (writtenOf t .number)
   -- restore

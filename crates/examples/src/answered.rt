@@ -1,4 +1,7 @@
 // What is answered, in the words of document 01's examples.
+use crate::given::ADD;
+use crate::given::Changes;
+use crate::given::REMOVE;
 use crate::say;
 use crate::state::say_conf;
 use crate::state::say_whole;
@@ -59,6 +62,34 @@ fn say_entry(e: MapChange) {
         MapChangeType::Remove => say::words(b" -"),
     }
     say::number(e.id);
+}
+
+// The changes of a list: `enter remove 1, add 2, learner 3`.
+pub(crate) fn say_changes(list: Changes) {
+    say::words(b"enter");
+    let n = list.len;
+    let mut i = 0;
+    while i < changes::MAX_CHANGES {
+        if n <= i {
+            return;
+        }
+        if i != 0 {
+            say::words(b",");
+        }
+        say_change(list.ids[i], list.kinds[i]);
+        i += 1;
+    }
+}
+
+fn say_change(id: u64, kind: u8) {
+    if kind == ADD {
+        say::words(b" add ");
+    } else if kind == REMOVE {
+        say::words(b" remove ");
+    } else {
+        say::words(b" learner ");
+    }
+    say::number(id);
 }
 
 // What `restore` and `restore_step_by_step` answer: the state that it leaves, after the refusal if there is one.

@@ -1,6 +1,7 @@
 // A call made on a state, and a line printed: what is asked, in the paper's words, and what is answered. An accepted answer is applied; the state that is
 // left comes back.
 use crate::answered;
+use crate::given::Changes;
 use crate::given::fresh;
 use crate::say;
 use changer::Answer;
@@ -22,6 +23,19 @@ pub(crate) fn simple<'a>(asked: &[u8], t: Tracker, ids: &'a [u64], kinds: &'a [u
 // `enter_joint` with this list, without auto leave.
 pub(crate) fn enter<'a>(asked: &[u8], t: Tracker, ids: &'a [u64], kinds: &'a [u8]) -> Tracker {
     told(asked, t, enter_joint(t, false, ids, kinds))
+}
+
+// `enter_joint` with a list that says itself what is asked.
+pub(crate) fn enter_list(asked: &[u8], t: Tracker, list: Changes) -> Tracker {
+    let n = list.len;
+    let ids = list.ids;
+    let kinds = list.kinds;
+    say::words(asked);
+    answered::say_changes(list);
+    if ids.len() < n {
+        return t;
+    }
+    told(b": ", t, enter_joint(t, false, &ids[..n], &kinds[..n]))
 }
 
 // `leave_joint`.

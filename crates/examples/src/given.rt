@@ -57,6 +57,59 @@ pub(crate) fn conf_state(
     }
 }
 
+// The outgoing voters of a `ConfState` as its voters: what is restored of it before the last step.
+pub(crate) fn outgoing_first(cs: ConfState) -> ConfState {
+    conf_state(cs.voters_outgoing, none(), none(), none())
+}
+
+// A change list: the first `len` of `ids` and of `kinds`.
+pub(crate) struct Changes {
+    pub ids: [u64; changes::MAX_CHANGES],
+    pub kinds: [u8; changes::MAX_CHANGES],
+    pub len: usize,
+}
+
+// The list of a restore's last step: remove each outgoing, add each voter, add-learner each learner, then each staged.
+pub(crate) fn last_step(cs: ConfState) -> Changes {
+    let none = Changes {
+        ids: [0u64; changes::MAX_CHANGES],
+        kinds: [0u8; changes::MAX_CHANGES],
+        len: 0,
+    };
+    let removed = append(none, cs.voters_outgoing, REMOVE);
+    let added = append(removed, cs.voters, ADD);
+    let learners = append(added, cs.learners, LEARNER);
+    append(learners, cs.learners_next, LEARNER)
+}
+
+// The list with a change of this kind for each id more.
+fn append(list: Changes, more: IdList, kind: u8) -> Changes {
+    let mut c = list;
+    let n = more.len;
+    let mut i = 0;
+    while i < IdList::CAPACITY {
+        if n <= i {
+            return c;
+        }
+        c = with_change(c, more.ids[i], kind);
+        i += 1;
+    }
+    c
+}
+
+// The list with one change more, where there is room for it.
+fn with_change(list: Changes, id: u64, kind: u8) -> Changes {
+    let n = list.len;
+    if changes::MAX_CHANGES <= n {
+        return list;
+    }
+    let mut c = list;
+    c.ids[n] = id;
+    c.kinds[n] = kind;
+    c.len = n + 1;
+    c
+}
+
 // The empty list.
 pub(crate) fn none() -> IdList {
     IdList {

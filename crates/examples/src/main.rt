@@ -108,7 +108,8 @@ fn example_10() {
     answered::say_record(b"10 record of 2 after: ", after.records[1]);
 }
 
-// Fresh, restore voters (1 2 3), learners (5), outgoing (1 2 4 6), staged (4); its last step alone, since `restore` gives no log; leave.
+// Fresh, restore voters (1 2 3), learners (5), outgoing (1 2 4 6), staged (4); its last step alone, since `restore` gives no log; leave. The last step is
+// asked of what the steps before it leave, and its list is made of the lists that are restored.
 fn example_11() {
     let cs = conf_state(
         list(&[1, 2, 3]),
@@ -120,22 +121,11 @@ fn example_11() {
         b"11 fresh, restore voters (1 2 3), learners (5), outgoing (1 2 4 6), staged (4): ",
         cs,
     );
-    ask::enter(
-        b"11 its last step, voters (1 2 4 6), enter remove 1, remove 2, remove 4, remove 6, add 1, add 2, add 3, learner 5, learner 4: ",
-        voters(&[1, 2, 4, 6]),
-        &[1, 2, 4, 6, 1, 2, 3, 5, 4],
-        &[
-            REMOVE,
-            REMOVE,
-            REMOVE,
-            REMOVE,
-            ADD,
-            ADD,
-            ADD,
-            LEARNER,
-            LEARNER,
-        ],
+    let before = ask::restore(
+        b"11 its steps before the last, fresh, restore voters (1 2 4 6): ",
+        given::outgoing_first(cs),
     );
+    ask::enter_list(b"11 its last step: ", before, given::last_step(cs));
     ask::leave(b"11 leave: ", t);
 }
 
