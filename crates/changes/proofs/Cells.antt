@@ -1,6 +1,5 @@
--- A table laid out by rows, one for a standing and in it a column for a kind, has each move at its row and column. Assumes nothing.
-use Prim.Native.Nat.{_+_, _*_}
-use mathlib.Core.Path.{_≡_, refl}
+-- A table of rows, one for a standing and in it a column for a kind, has each move at its row and column. Assumes nothing.
+use mathlib.Core.Path.{_≡_, refl, ap, _∙_}
 use mathlib.Core.List.{List, [], _∷_}
 use lib.ListN.{getD}
 use Rattle.changes.specs.Table.{placeNumber, columnNumber}
@@ -10,31 +9,25 @@ use Rattle.changes.specs.declared.table.Kind.{Kind}
 use Rattle.changes.specs.declared.table.Kind.the-variants.{AddNode, AddLearnerNode, RemoveNode}
 use Rattle.changes.specs.declared.table.Move.{Move}
 
-abbrev pub columns : (Kind → Move) → List Move → List Move
-columns f ms = f AddNode ∷ f AddLearnerNode ∷ f RemoveNode ∷ ms
+abbrev columns : (Kind → Move) → List Move
+columns f = f AddNode ∷ f AddLearnerNode ∷ f RemoveNode ∷ []
 
-abbrev pub cells : (Standing → Kind → Move) → List Move
-cells f = columns (f None) (columns (f Idle) (columns (f I) (columns (f L) (columns (f O) (columns (f IO) (columns (f OS) []))))))
+abbrev cells : (Standing → Kind → Move) → List (List Move)
+cells f = columns (f None) ∷ columns (f Idle) ∷ columns (f I) ∷ columns (f L) ∷ columns (f O) ∷ columns (f IO) ∷ columns (f OS) ∷ []
 
-pub cell : (f : Standing → Kind → Move) (s : Standing) (k : Kind) (d : Move) → getD (cells f) (placeNumber s * 3 + columnNumber k) d ≡ f s k
-cell f None AddNode d = refl
-cell f None AddLearnerNode d = refl
-cell f None RemoveNode d = refl
-cell f Idle AddNode d = refl
-cell f Idle AddLearnerNode d = refl
-cell f Idle RemoveNode d = refl
-cell f I AddNode d = refl
-cell f I AddLearnerNode d = refl
-cell f I RemoveNode d = refl
-cell f L AddNode d = refl
-cell f L AddLearnerNode d = refl
-cell f L RemoveNode d = refl
-cell f O AddNode d = refl
-cell f O AddLearnerNode d = refl
-cell f O RemoveNode d = refl
-cell f IO AddNode d = refl
-cell f IO AddLearnerNode d = refl
-cell f IO RemoveNode d = refl
-cell f OS AddNode d = refl
-cell f OS AddLearnerNode d = refl
-cell f OS RemoveNode d = refl
+row : (f : Standing → Kind → Move) (s : Standing) (e : List Move) → getD (cells f) (placeNumber s) e ≡ columns (f s)
+row f None e = refl
+row f Idle e = refl
+row f I e = refl
+row f L e = refl
+row f O e = refl
+row f IO e = refl
+row f OS e = refl
+
+column : (f : Kind → Move) (k : Kind) (d : Move) → getD (columns f) (columnNumber k) d ≡ f k
+column f AddNode d = refl
+column f AddLearnerNode d = refl
+column f RemoveNode d = refl
+
+pub cell : (f : Standing → Kind → Move) (s : Standing) (k : Kind) (e : List Move) (d : Move) → getD (getD (cells f) (placeNumber s) e) (columnNumber k) d ≡ f s k
+cell f s k e d = ap (λ (r : List Move). getD r (columnNumber k) d) (row f s e) ∙ column (f s) k d

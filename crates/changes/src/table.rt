@@ -33,99 +33,61 @@ pub struct Move {
     pub effect: Effect,
 }
 
+// The moves of the table: where an id comes to, and what is logged.
+const ADDED_I: Move = Move {
+    next: Standing::I,
+    effect: Effect::Adds,
+};
+
+const ADDED_L: Move = Move {
+    next: Standing::L,
+    effect: Effect::Adds,
+};
+
+const NONE: Move = Move {
+    next: Standing::None,
+    effect: Effect::Stays,
+};
+
+const REMOVED: Move = Move {
+    next: Standing::None,
+    effect: Effect::Removes,
+};
+
+const I: Move = Move {
+    next: Standing::I,
+    effect: Effect::Stays,
+};
+
+const L: Move = Move {
+    next: Standing::L,
+    effect: Effect::Stays,
+};
+
+const O: Move = Move {
+    next: Standing::O,
+    effect: Effect::Stays,
+};
+
+const IO: Move = Move {
+    next: Standing::IO,
+    effect: Effect::Stays,
+};
+
+const OS: Move = Move {
+    next: Standing::OS,
+    effect: Effect::Stays,
+};
+
 // A row a standing; its columns are AddNode, AddLearnerNode and RemoveNode.
-const MOVES: [Move; 21] = [
-    // None
-    Move {
-        next: Standing::I,
-        effect: Effect::Adds,
-    },
-    Move {
-        next: Standing::L,
-        effect: Effect::Adds,
-    },
-    Move {
-        next: Standing::None,
-        effect: Effect::Stays,
-    },
-    // Idle
-    Move {
-        next: Standing::I,
-        effect: Effect::Stays,
-    },
-    Move {
-        next: Standing::L,
-        effect: Effect::Stays,
-    },
-    Move {
-        next: Standing::None,
-        effect: Effect::Removes,
-    },
-    // I
-    Move {
-        next: Standing::I,
-        effect: Effect::Stays,
-    },
-    Move {
-        next: Standing::L,
-        effect: Effect::Stays,
-    },
-    Move {
-        next: Standing::None,
-        effect: Effect::Removes,
-    },
-    // L
-    Move {
-        next: Standing::I,
-        effect: Effect::Stays,
-    },
-    Move {
-        next: Standing::L,
-        effect: Effect::Stays,
-    },
-    Move {
-        next: Standing::None,
-        effect: Effect::Removes,
-    },
-    // O
-    Move {
-        next: Standing::IO,
-        effect: Effect::Stays,
-    },
-    Move {
-        next: Standing::OS,
-        effect: Effect::Stays,
-    },
-    Move {
-        next: Standing::O,
-        effect: Effect::Stays,
-    },
-    // IO
-    Move {
-        next: Standing::IO,
-        effect: Effect::Stays,
-    },
-    Move {
-        next: Standing::OS,
-        effect: Effect::Stays,
-    },
-    Move {
-        next: Standing::O,
-        effect: Effect::Stays,
-    },
-    // OS
-    Move {
-        next: Standing::IO,
-        effect: Effect::Stays,
-    },
-    Move {
-        next: Standing::OS,
-        effect: Effect::Stays,
-    },
-    Move {
-        next: Standing::O,
-        effect: Effect::Stays,
-    },
+const MOVES: [[Move; 3]; 7] = [
+    [ADDED_I, ADDED_L, NONE], // None
+    [I, L, REMOVED], // Idle
+    [I, L, REMOVED], // I
+    [I, L, REMOVED], // L
+    [IO, OS, O], // O
+    [IO, OS, O], // IO
+    [IO, OS, O], // OS
 ];
 
 // What a change of this kind does to an id that stands there.
@@ -134,8 +96,7 @@ pub fn next_move(from: Standing, kind: Kind) -> Move
 {
     let row = row_number(from);
     let column = column_number(kind);
-    let at = row * 3 + column;
-    MOVES[at]
+    MOVES[row][column]
 }
 
 fn row_number(s: Standing) -> usize

@@ -125,5 +125,11 @@ pub found :
     × (firstIs 5 (drop 1 (take 1 (1 ∷ 5 ∷ []))) ≡ false)
     -- `stands_at` that is true past the end
     × (firstIs 5 (drop 2 (take 9 (1 ∷ 5 ∷ []))) ≡ false)
+    -- `is_past` that is always yes
+    × (isEmpty (drop 1 (take 2 (1 ∷ 5 ∷ []))) ≡ false)
+    -- `is_past` that looks past `len`
+    × (isEmpty (drop 1 (take 1 (1 ∷ 5 ∷ []))) ≡ true)
+    -- `is_past` that looks past the end
+    × (isEmpty (drop 2 (take 9 (1 ∷ 5 ∷ []))) ≡ true)
 unfolding setOf memb rank firstIs
-found = (refl, refl, refl, refl, refl, refl, refl, refl, refl)
+found = (refl, refl, refl, refl, refl, refl, refl, refl, refl, refl, refl, refl)

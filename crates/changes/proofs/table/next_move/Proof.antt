@@ -1,4 +1,4 @@
--- `changes::table::next_move` meets its contract: the constant is the table laid out by rows. Assumes nothing.
+-- `changes::table::next_move` meets its contract: the constant is the table, row by row. Assumes nothing.
 use borrow.Author.Needs.{needs}
 use Rattle.changes.specs.Table.{moveOf}
 use Rattle.changes.proofs.Cells.{cell}
@@ -11,21 +11,21 @@ row-number-requires c κs = search needs
 column-number-requires : tie.Need-column-number-requires
 column-number-requires c κs = search needs
 
-mul-at : tie.Need-mul-at
-mul-at c = search needs
-
-add-at : tie.Need-add-at
-add-at c = search needs
-
 mul-result : tie.Need-mul-result
 mul-result c = search needs
 
-array-copy-out-result : tie.Need-array-copy-out-result
-array-copy-out-result c = search needs
+mul-result-2 : tie.Need-mul-result-2
+mul-result-2 c = search needs
+
+index-1-result : tie.Need-index-1-result
+index-1-result c = search needs
+
+index-2-result : tie.Need-index-2-result
+index-2-result c = search needs
 
 returns : tie.Need-returns
 unfolding moveOf
-returns c = rw (c .before .before .row-number .ensures .0, c .before .column-number .ensures .0) (cell moveOf (c .before .before .before .args .from) (c .before .before .before .args .kind) _)
+returns c = rw (c .before .before .row-number .ensures .0, c .before .column-number .ensures .0) (cell moveOf (c .before .before .before .args .from) (c .before .before .before .args .kind) _ _)
 
 pub next-move-spec : {M : Type 1} → statement M
 next-move-spec =
@@ -33,8 +33,8 @@ next-move-spec =
     (tie.spec
     row-number-requires
     column-number-requires
-    mul-at
-    add-at
     mul-result
-    array-copy-out-result
+    mul-result-2
+    index-1-result
+    index-2-result
     returns)
