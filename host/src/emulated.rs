@@ -1,40 +1,36 @@
-//! The static libraries on a processor that is not an x86-64: each entry in a program of its own (emulated.c, which also has the frames),
-//! run by the emulator and asked through pipes. The entries' names are here, in the place of linked libraries.
+//! The x86-64 code of the static libraries on a processor that is not an x86-64: each entry in a program of its own (emulated.c, which also
+//! has the frames), run by the emulator and asked through pipes.
 
+use crate::subject::Subject;
 use std::io::{Read, Write};
 use std::process::{Child, Command, Stdio};
 use std::slice;
 use std::sync::atomic::{AtomicBool, AtomicUsize, Ordering::Relaxed};
 use std::sync::{LazyLock, Mutex};
 
-#[cfg(libcalls)]
-static CALL: LazyLock<Mutex<Program>> = LazyLock::new(|| Program::start(env!("DIMECANDLE_CALL_PROGRAM")));
+/// The entries, each in its program. One whose library is not at hand is not asked.
+pub struct Emulated;
 
-#[cfg(libcalls)]
-static UNPLUG: LazyLock<Mutex<Program>> = LazyLock::new(|| Program::start(env!("DIMECANDLE_UNPLUG_PROGRAM")));
+static CALL: LazyLock<Mutex<Program>> = LazyLock::new(|| Program::start(option_env!("DIMECANDLE_CALL_PROGRAM")));
+static UNPLUG: LazyLock<Mutex<Program>> = LazyLock::new(|| Program::start(option_env!("DIMECANDLE_UNPLUG_PROGRAM")));
+static REPLAY: LazyLock<Mutex<Program>> = LazyLock::new(|| Program::start(option_env!("DIMECANDLE_REPLAY_PROGRAM")));
 
-#[cfg(liblisting)]
-static REPLAY: LazyLock<Mutex<Program>> = LazyLock::new(|| Program::start(env!("DIMECANDLE_REPLAY_PROGRAM")));
+impl Subject for Emulated {
+    fn call(&self, request: &[u8], reply: &mut [u8]) -> u64 {
+        ask(&CALL, request, reply)
+    }
 
-#[cfg(libcalls)]
-#[no_mangle]
-unsafe extern "C" fn dimecandle_call(request: *const u8, n: usize, reply: *mut u8, m: usize) -> u64 {
-    ask(&CALL, slice::from_raw_parts(request, n), slice::from_raw_parts_mut(reply, m))
-}
+    /// The given bytes are the id and then the state, the lent ones the verdict.
+    fn unplug(&self, state: &[u64], id: u64, verdict: &mut [u64]) -> u64 {
+        let given: Vec<u8> = [id].iter().chain(state).flat_map(|word| word.to_le_bytes()).collect();
+        // words are bytes too
+        let lent = unsafe { slice::from_raw_parts_mut(verdict.as_mut_ptr().cast(), 8 * verdict.len()) };
+        ask(&UNPLUG, &given, lent)
+    }
 
-/// The given bytes are the id and then the state, the lent ones the verdict.
-#[cfg(libcalls)]
-#[no_mangle]
-unsafe extern "C" fn dimecandle_unplug(state: *const u64, n: usize, id: u64, verdict: *mut u64, m: usize) -> u64 {
-    let state = slice::from_raw_parts(state.cast::<u8>(), 8 * n);
-    let given = [&id.to_le_bytes()[..], state].concat();
-    ask(&UNPLUG, &given, slice::from_raw_parts_mut(verdict.cast(), 8 * m))
-}
-
-#[cfg(liblisting)]
-#[no_mangle]
-unsafe extern "C" fn dimecandle_replay(script: *const u8, n: usize, out: *mut u8, m: usize) -> u64 {
-    ask(&REPLAY, slice::from_raw_parts(script, n), slice::from_raw_parts_mut(out, m))
+    fn replay(&self, script: &[u8], out: &mut [u8]) -> u64 {
+        ask(&REPLAY, script, out)
+    }
 }
 
 /// Whether the stack of what is asked is measured, and the most that was needed since.
@@ -67,8 +63,11 @@ struct Program {
 }
 
 impl Program {
-    fn start(program: &str) -> Mutex<Program> {
-        let mut command = Command::new(env!("EMULATOR"));
+    fn start(program: Option<&str>) -> Mutex<Program> {
+        let (Some(emulator), Some(program)) = (option_env!("EMULATOR"), program) else {
+            unreachable!("only what was built for the emulator is asked")
+        };
+        let mut command = Command::new(emulator);
         command.args(["--stack", STACK_KIB, program]).stdin(Stdio::piped()).stdout(Stdio::piped());
         Mutex::new(Program { child: command.spawn().expect("the emulator starts"), frame: vec![] })
     }

@@ -36,19 +36,34 @@ pub fn wrapper(comparison: &mut Comparison, random: &mut Random, size: Size) -> 
     Ok(())
 }
 
-/// What the wrapper says of one box beside the right verdict.
+/// What the wrapper says of one box beside the right verdict. Of the second side its entry is asked the same, without the wrapper.
 fn can_unplug(comparison: &mut Comparison, state: &words::State, id: u64) -> Compared {
     comparison.inputs += 1;
     let verdict = tracker(state).can_unplug(id).map_or_else(|refused| [refused.number, refused.id], |()| [0, 0]);
-    let input = || Input::Other(format!("through dimecandle.rs: {}", show::unplug(state, id)));
-    comparison.judge(state, id, verdict).map_err(|difference| Box::new(Failure { input: input(), difference }))
+    let right = comparison.right_verdict(state, id);
+    if let Some(difference) = right.difference(state, verdict) {
+        let input = Input::Other(format!("through dimecandle.rs: {}", show::unplug(state, id)));
+        return Err(Box::new(Failure { input, difference }));
+    }
+    match comparison.second_side(|second| second.verdict_difference(state, id, &right, false)) {
+        None => Ok(()),
+        Some(difference) => Err(Box::new(Failure { input: Input::Unplug(Box::new(*state), id), difference })),
+    }
 }
 
+/// The result of one call. Of the second side its entry is asked the same, without the wrapper.
 fn through(comparison: &mut Comparison, request: &Request) -> Compared {
     comparison.inputs += 1;
-    match difference(comparison, request) {
+    if let Some(difference) = difference(comparison, request) {
+        return Err(Box::new(Failure { input: Input::Wrapped(Box::new(*request)), difference }));
+    }
+    let of_entry = |second: &mut Comparison| {
+        let with_rust = second.expected(request).1.is_some();
+        second.reply_difference(request, with_rust)
+    };
+    match comparison.second_side(of_entry) {
         None => Ok(()),
-        Some(difference) => Err(Box::new(Failure { input: Input::Wrapped(Box::new(*request)), difference })),
+        Some(difference) => Err(Box::new(Failure { input: Input::Call(Box::new(*request)), difference })),
     }
 }
 
