@@ -33,8 +33,13 @@ const DOORS: [(&str, &str); 2] = [("confchange/changer.rs", "changer.rs"), ("tra
 /// Modules that the text declares and that are not at hand.
 const STAND_INS: [&str; 2] = ["quorum/joint.rs", "quorum/majority.rs"];
 
+/// Before each module of the text, which is taken as it was published: its style, and what nobody calls here, is not ours to mend. The
+/// stand-ins among its modules say again that they are.
+const NOT_OURS: &str = "#[allow(clippy::all, dead_code, mismatched_lifetime_syntaxes)]";
+
 /// The libraries, and the entries of each.
-const LIBRARIES: [(&str, &[&str]); 2] = [("calls", &["dimecandle_call", "dimecandle_unplug"]), ("listing", &["dimecandle_replay"])];
+const LIBRARIES: [(&str, &[&str]); 2] =
+    [("calls", &["dimecandle_call", "dimecandle_unplug"]), ("listing", &["dimecandle_replay"])];
 
 fn main() {
     for name in ["rust_text", "libcalls", "liblisting", "calls_linked", "listing_linked", "emulated", "native"] {
@@ -88,10 +93,8 @@ fn lay_out(package: &Path, source: &Path) {
     for file in STAND_INS {
         symlink(package.join("src/raft").join(file), text.join(file)).expect("a symbolic link");
     }
-    let modules: String = ["confchange", "quorum", "tracker"]
-        .iter()
-        .map(|name| format!("#[path = {:?}]\nmod {name};\n", text.join(name).join("mod.rs")))
-        .collect();
+    let module = |name: &str| format!("{NOT_OURS}\n#[path = {:?}]\nmod {name};\n", text.join(name).join("mod.rs"));
+    let modules: String = ["confchange", "quorum", "tracker"].map(module).concat();
     fs::write(text.join("modules.rs"), modules).expect("OUT_DIR can be written");
 }
 

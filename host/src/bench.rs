@@ -49,7 +49,8 @@ pub fn run() -> ExitCode {
 /// What Linux says of the processor: its name, or the numbers that it has in the place of one.
 fn processor() -> String {
     let known = std::fs::read_to_string("/proc/cpuinfo").unwrap_or_default();
-    let said = |key: &str| known.lines().find_map(|line| line.strip_prefix(key)?.trim_start().strip_prefix(": ").map(str::to_string));
+    let said =
+        |key: &str| known.lines().find_map(|line| line.strip_prefix(key)?.trim_start().strip_prefix(": ").map(str::to_string));
     let numbers = || Some(format!("CPU implementer {}, part {}", said("CPU implementer")?, said("CPU part")?));
     let name: Option<String> = said("model name").or_else(numbers);
     format!("{} ({})", std::env::consts::ARCH, name.unwrap_or_else(|| "no name known".to_string()))

@@ -207,4 +207,3 @@ fn answer(answer: Answer, reply: &mut Reply) {
         }
     }
 }
-

@@ -3,10 +3,10 @@
 //! The subject has to agree with the Rust wherever the Rust has an answer (calls.rs, `in_domain`), and with the paper everywhere: also
 //! in which of several faults is named, in refusals that the paper adds, and in the bytes that stay as they were.
 
+use crate::beside::{Beside, Share};
 use crate::calls::{self, call_in_domain, in_domain, paper_unplug, removal, same_group, LEAVE_JOINT};
 use crate::model::Model;
 use crate::oracle::{self, rust_listing, Rust};
-use crate::beside::{Beside, Share};
 use crate::script::{LONGEST_SCRIPT, NO_ROOM, TOO_LONG};
 use crate::show;
 use crate::subject::Subject;
@@ -363,7 +363,8 @@ impl<'a> Comparison<'a> {
     pub fn script_difference(&mut self, script: &[u8], rooms: &[Room]) -> Option<Difference> {
         if script.len() > LONGEST_SCRIPT {
             self.count(19);
-            let untouched = |this: &mut Self| [0, 1, 100_000].into_iter().find_map(|room| this.replay(script, room, Err(TOO_LONG)));
+            let untouched =
+                |this: &mut Self| [0, 1, 100_000].into_iter().find_map(|room| this.replay(script, room, Err(TOO_LONG)));
             return self.each_side(|this| untouched(this).map(from_the_paper));
         }
         let paper = Model::PAPER.listing(script);

@@ -16,9 +16,9 @@ mod unplug;
 mod vectors;
 pub mod wrapper;
 
+use crate::beside::Share;
 use crate::compare::{Compared, Comparison};
 use crate::random::Random;
-use crate::beside::Share;
 
 /// How much a group tries.
 #[derive(Clone, Copy, PartialEq, Eq)]

@@ -8,7 +8,8 @@ use crate::random::Random;
 use crate::run::{of_the_rust, CANNOT_RUN};
 use crate::shrink::smallest;
 use crate::subject::{
-    beside, linked_code, Linked, CALLS_AT_HAND, CALLS_MISSING, EMULATED_CODE, LINKED_IS_EMULATED, LISTING_AT_HAND, LISTING_MISSING,
+    beside, linked_code, Linked, CALLS_AT_HAND, CALLS_MISSING, EMULATED_CODE, LINKED_IS_EMULATED, LISTING_AT_HAND,
+    LISTING_MISSING,
 };
 use crate::{show, wrong};
 use std::process::ExitCode;
@@ -101,7 +102,9 @@ fn say_what(options: &Options) {
     }
     println!("beside {}: every input", linked_code());
     if beside().is_some() {
-        println!("and beside {EMULATED_CODE}: each input of the examples, limits, edges, vectors and scripts, one in twenty else");
+        println!(
+            "and beside {EMULATED_CODE}: each input of the examples, limits, edges, vectors and scripts, one in twenty else"
+        );
     } else if LINKED_IS_EMULATED {
         println!("target/native has no native code of these libraries: scripts/native makes it, and the run is then some times as fast");
     }

@@ -9,8 +9,10 @@ use std::fs;
 const FILE: &str = concat!(env!("CARGO_MANIFEST_DIR"), "/../crates/vectors/stdin");
 
 pub fn vectors(comparison: &mut Comparison, _: &mut Random, _: Size) -> Compared {
-    let failure = |input, against, what| Box::new(Failure { input: Input::Other(input), difference: Difference { against, what } });
-    let file = fs::read(FILE).map_err(|error| failure(FILE.to_string(), Against::Paper, format!("it cannot be read: {error}")))?;
+    let failure =
+        |input, against, what| Box::new(Failure { input: Input::Other(input), difference: Difference { against, what } });
+    let file =
+        fs::read(FILE).map_err(|error| failure(FILE.to_string(), Against::Paper, format!("it cannot be read: {error}")))?;
     for (number, case) in (1..).zip(cases(&file)) {
         comparison.inputs += 1;
         comparison.with_rust += u64::from(case.by_rust);
