@@ -104,11 +104,36 @@ pub struct Comparison<'a> {
     pub with_rust: u64,
     /// calls that the paper accepts
     pub accepted: u64,
-    /// answers in which the Rust, walking a hash set, named another fault of the group than the paper does
-    pub other_fault: u64,
+    other_fault: u64,
+    numbers: [u64; 21],
+    pub steps: Steps,
+}
+
+/// What is counted over all groups.
+#[derive(Default)]
+pub struct Totals {
     /// how often the paper gave each number
     pub numbers: [u64; 21],
+    /// answers in which the Rust, walking a hash set, named another fault of the group than the paper does
+    pub other_fault: u64,
+    pub entries: Entries,
     pub steps: Steps,
+}
+
+impl Totals {
+    pub fn add(&mut self, more: &Totals) {
+        for (count, more) in self.numbers.iter_mut().zip(more.numbers) {
+            *count += more;
+        }
+        self.other_fault += more.other_fault;
+        self.entries.plainly += more.entries.plainly;
+        self.entries.repaired += more.entries.repaired;
+        for (count, more) in self.steps.held.as_flattened_mut().iter_mut().zip(more.steps.held.as_flattened()) {
+            *count += more;
+        }
+        self.steps.plainly += more.steps.plainly;
+        self.steps.pairs += more.steps.pairs;
+    }
 }
 
 impl<'a> Comparison<'a> {
@@ -218,9 +243,8 @@ impl<'a> Comparison<'a> {
         &self.replies[2]
     }
 
-    /// How the entries of the accepted lists were judged.
-    pub fn entries(&self) -> &Entries {
-        &self.rust.entries
+    pub fn into_totals(self) -> Totals {
+        Totals { numbers: self.numbers, other_fault: self.other_fault, entries: self.rust.entries, steps: self.steps }
     }
 
     pub fn call_difference(&mut self, request: &Request) -> Option<Difference> {

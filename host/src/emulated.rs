@@ -2,18 +2,21 @@
 //! has the frames), run by the emulator and asked through pipes.
 
 use crate::subject::Subject;
+use std::cell::{Cell, RefCell};
 use std::io::{Read, Write};
 use std::process::{Child, Command, Stdio};
 use std::slice;
-use std::sync::atomic::{AtomicBool, AtomicUsize, Ordering::Relaxed};
-use std::sync::{LazyLock, Mutex};
+use std::thread::LocalKey;
 
 /// The entries, each in its program. One whose library is not at hand is not asked.
 pub struct Emulated;
 
-static CALL: LazyLock<Mutex<Program>> = LazyLock::new(|| Program::start(option_env!("DIMECANDLE_CALL_PROGRAM")));
-static UNPLUG: LazyLock<Mutex<Program>> = LazyLock::new(|| Program::start(option_env!("DIMECANDLE_UNPLUG_PROGRAM")));
-static REPLAY: LazyLock<Mutex<Program>> = LazyLock::new(|| Program::start(option_env!("DIMECANDLE_REPLAY_PROGRAM")));
+// Each thread has programs of its own: they are asked side by side.
+thread_local! {
+    static CALL: RefCell<Program> = Program::start(option_env!("DIMECANDLE_CALL_PROGRAM"));
+    static UNPLUG: RefCell<Program> = Program::start(option_env!("DIMECANDLE_UNPLUG_PROGRAM"));
+    static REPLAY: RefCell<Program> = Program::start(option_env!("DIMECANDLE_REPLAY_PROGRAM"));
+}
 
 impl Subject for Emulated {
     fn call(&self, request: &[u8], reply: &mut [u8]) -> u64 {
@@ -33,43 +36,45 @@ impl Subject for Emulated {
     }
 }
 
-/// Whether the stack of what is asked is measured, and the most that was needed since.
-static MEASURED: AtomicBool = AtomicBool::new(false);
-static PEAK: AtomicUsize = AtomicUsize::new(0);
+thread_local! {
+    /// Whether the stack of what is asked is measured, and the most that was needed since.
+    static MEASURED: Cell<bool> = const { Cell::new(false) };
+    static PEAK: Cell<usize> = const { Cell::new(0) };
+}
 
 /// Does something with the stack measured of each entry that it asks: the most that one needed.
 pub fn peak(work: impl FnOnce()) -> usize {
-    PEAK.store(0, Relaxed);
-    MEASURED.store(true, Relaxed);
+    PEAK.set(0);
+    MEASURED.set(true);
     work();
-    MEASURED.store(false, Relaxed);
-    PEAK.load(Relaxed)
+    MEASURED.set(false);
+    PEAK.get()
 }
 
-fn ask(program: &Mutex<Program>, given: &[u8], lent: &mut [u8]) -> u64 {
-    let mut program = program.lock().expect("no answer is missing");
-    let [returned, stack] = program.ask(MEASURED.load(Relaxed), given, lent).expect("the emulated program answers");
-    PEAK.fetch_max(stack as usize, Relaxed);
+fn ask(program: &'static LocalKey<RefCell<Program>>, given: &[u8], lent: &mut [u8]) -> u64 {
+    let answer = program.with_borrow_mut(|program| program.ask(MEASURED.get(), given, lent));
+    let [returned, stack] = answer.expect("the emulated program answers");
+    PEAK.set(PEAK.get().max(stack as usize));
     returned
 }
 
 /// The stack that a program has: twice what it fills where the stack is measured.
 const STACK_KIB: &str = "8192";
 
-/// A running program. It ends with its input, which ends when this program does.
+/// A running program. It ends with its input, which ends when its thread does.
 struct Program {
     child: Child,
     frame: Vec<u8>,
 }
 
 impl Program {
-    fn start(program: Option<&str>) -> Mutex<Program> {
+    fn start(program: Option<&str>) -> RefCell<Program> {
         let (Some(emulator), Some(program)) = (option_env!("EMULATOR"), program) else {
             unreachable!("only what was built for the emulator is asked")
         };
         let mut command = Command::new(emulator);
         command.args(["--stack", STACK_KIB, program]).stdin(Stdio::piped()).stdout(Stdio::piped());
-        Mutex::new(Program { child: command.spawn().expect("the emulator starts"), frame: vec![] })
+        RefCell::new(Program { child: command.spawn().expect("the emulator starts"), frame: vec![] })
     }
 
     /// One frame and its answer: what the entry returned, and its stack where that is measured. The lent bytes go there and come back.
@@ -86,5 +91,13 @@ impl Program {
         output.read_exact(words.as_flattened_mut())?;
         output.read_exact(lent)?;
         Ok(words.map(u64::from_le_bytes))
+    }
+}
+
+impl Drop for Program {
+    fn drop(&mut self) {
+        drop(self.child.stdin.take());
+        // whatever it ends with: each of its answers has been looked at
+        let _ = self.child.wait();
     }
 }

@@ -23,6 +23,7 @@ mod subject;
 mod vectors;
 mod whole;
 mod words;
+mod workers;
 mod wrong;
 
 fn main() -> std::process::ExitCode {
