@@ -7,7 +7,7 @@
 //! With one, `--cfg libcalls` or `--cfg liblisting`; without it the model of the paper stands in its place. Their code is for x86-64,
 //! and built for that they are linked: `--cfg calls_linked`, `--cfg listing_linked`. Built for another processor, each entry is put into
 //! a program for the emulator, `--cfg emulated`, and what is linked is native code, `--cfg native`: libraries of the same names in the
-//! folder named by DIMECANDLE_NATIVE, else in target/native. Where one of these is missing, none is linked.
+//! folder named by DIMECANDLE_NATIVE, else in target/native. Where one of these is missing, or older than the other, none is linked.
 
 use std::env;
 use std::fs;
@@ -115,7 +115,7 @@ fn libraries(package: &Path) {
         return link(&found);
     }
     let folder = folder(package, "DIMECANDLE_NATIVE", "../target/native");
-    let native = found.iter().map(|(name, _)| native(&folder, name)).collect::<Option<Vec<_>>>();
+    let native = found.iter().map(|library| native(&folder, library)).collect::<Option<Vec<_>>>();
     if !found.is_empty() {
         println!("cargo::rustc-cfg=emulated");
     }
@@ -132,10 +132,12 @@ fn for_x86_64() -> bool {
 /// A library's name, and where it is.
 type Found<'a> = (&'a str, PathBuf);
 
-fn native<'a>(folder: &Path, name: &'a str) -> Option<Found<'a>> {
+/// A library's native code, if it is there and not older than the x86-64 code.
+fn native<'a>(folder: &Path, (name, of): &Found<'a>) -> Option<Found<'a>> {
     let archive = folder.join(format!("lib{name}.a"));
     println!("cargo::rerun-if-changed={}", archive.display());
-    Some((name, archive.canonicalize().ok()?))
+    let made = |file: &Path| file.metadata().and_then(|known| known.modified()).ok();
+    (made(&archive)? >= made(of)?).then_some((*name, archive.canonicalize().ok()?))
 }
 
 fn link(found: &[Found]) {

@@ -42,9 +42,9 @@ impl<'a> Beside<'a> {
     }
 }
 
-/// The one input that is taken of the twenty among which this one is. Of the first twenty it is the first, so that no group goes without;
-/// of the others any, as a number drawn for the group and the twenty says: groups ask calls in turn, and a fixed step would always meet
-/// the same call.
+/// The one input that is taken of the twenty among which this one is. Of the first twenty it is the first, so
+/// that no group goes without; of the others any, as a number drawn for the group and the twenty says: groups ask
+/// calls in turn, and a fixed step would always meet the same call.
 fn chosen(group: &str, input: u64) -> u64 {
     let twenty = (input - 1) / TWENTY;
     let place = if twenty == 0 { 0 } else { Random::new(twenty, group).below(TWENTY as usize) };

@@ -1,5 +1,5 @@
-//! The x86-64 code of the static libraries on a processor that is not an x86-64: each entry in a program of its own (emulated.c, which also
-//! has the frames), run by the emulator and asked through pipes.
+//! The x86-64 code of the static libraries on a processor that is not an x86-64: each entry in a program of its
+//! own (emulated.c, which also has the frames), run by the emulator and asked through pipes.
 
 use crate::subject::Subject;
 use std::cell::{Cell, RefCell};

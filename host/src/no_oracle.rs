@@ -1,4 +1,5 @@
-//! In the place of oracle.rs where the Rust text was not found: there is no Rust's side, no input is in its domain, and nobody asks it.
+//! In the place of oracle.rs where the Rust text was not found: there is no Rust's side, no input is in its
+//! domain, and nobody asks it.
 
 use crate::compare::Entries;
 use crate::words::{Reply, Request, State, Verdict};

@@ -7,20 +7,18 @@ use std::thread;
 /// At most so many at a time.
 const MOST: usize = 4;
 
-/// Does the work on each item, on as many threads as there are processors, and hands on each result as soon as those of all items before it
-/// have been.
+/// Does the work on each item, on as many threads as there are processors, and hands on each result as soon
+/// as those of all items before it have been.
 pub fn in_order<T: Sync, R: Send>(items: &[T], work: impl Fn(&T) -> R + Sync, mut then: impl FnMut(R)) {
     let threads = thread::available_parallelism().map_or(1, |count| count.get().min(MOST));
     let (next, (done, results)) = (AtomicUsize::new(0), mpsc::channel());
     thread::scope(|scope| {
         for _ in 0..threads {
             let (done, next, work) = (done.clone(), &next, &work);
-            scope.spawn(move || {
-                while let Some((place, item)) =
-                    Some(next.fetch_add(1, Relaxed)).and_then(|place| Some((place, items.get(place)?)))
-                {
-                    done.send((place, work(item))).expect("the results are waited for");
-                }
+            scope.spawn(move || loop {
+                let place = next.fetch_add(1, Relaxed);
+                let Some(item) = items.get(place) else { break };
+                done.send((place, work(item))).expect("the results are waited for");
             });
         }
         drop(done);
