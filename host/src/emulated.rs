@@ -43,6 +43,7 @@ thread_local! {
 }
 
 /// Does something with the stack measured of each entry that it asks: the most that one needed.
+#[cfg(emulated)]
 pub fn peak(work: impl FnOnce()) -> usize {
     PEAK.set(0);
     MEASURED.set(true);
