@@ -1,11 +1,13 @@
-//! Finds the Rust text and the static libraries.
+//! Finds the Rust text and the libraries.
 //!
 //! The text: the folder named by RAFT_SRC, else `../shared/docs/src/src` beside the repository. Each of its files is compiled where it
 //! stands; OUT_DIR gets symbolic links to them, in the layout that rustc looks for. With it, `--cfg rust_text`.
 //!
 //! The libraries: `libcalls.a` and `liblisting.a` in the folder named by DIMECANDLE_LIBS, else in the repository's target/staticlib.
-//! With one, `--cfg libcalls` or `--cfg liblisting`; without it the model of the paper stands in its place. Their code is for x86-64:
-//! where this is built for another processor, `--cfg emulated`, and each entry is put into a program for the emulator instead of this one.
+//! With one, `--cfg libcalls` or `--cfg liblisting`; without it the model of the paper stands in its place. Their code is for x86-64,
+//! and built for that they are linked: `--cfg calls_linked`, `--cfg listing_linked`. Built for another processor, each entry is put into
+//! a program for the emulator, `--cfg emulated`, and what is linked is native code, `--cfg native`: libraries of the same names in the
+//! folder named by DIMECANDLE_NATIVE, else in target/native. Where one of these is missing, or older than the other, none is linked.
 
 use std::env;
 use std::fs;
@@ -31,14 +33,21 @@ const DOORS: [(&str, &str); 2] = [("confchange/changer.rs", "changer.rs"), ("tra
 /// Modules that the text declares and that are not at hand.
 const STAND_INS: [&str; 2] = ["quorum/joint.rs", "quorum/majority.rs"];
 
+/// Before each module of the text, which is taken as it was published: its style, and what nobody calls here, is not ours to mend. The
+/// stand-ins among its modules say again that they are.
+const NOT_OURS: &str = "#[allow(clippy::all, dead_code, mismatched_lifetime_syntaxes)]";
+
+/// The libraries, and the entries of each.
+const LIBRARIES: [(&str, &[&str]); 2] =
+    [("calls", &["dimecandle_call", "dimecandle_unplug"]), ("listing", &["dimecandle_replay"])];
+
 fn main() {
-    for name in ["rust_text", "libcalls", "liblisting", "emulated"] {
+    for name in ["rust_text", "libcalls", "liblisting", "calls_linked", "listing_linked", "emulated", "native"] {
         println!("cargo::rustc-check-cfg=cfg({name})");
     }
     let package = PathBuf::from(env::var_os("CARGO_MANIFEST_DIR").expect("cargo names the package"));
     text(&package);
-    library(&package, "calls", &["dimecandle_call", "dimecandle_unplug"]);
-    library(&package, "listing", &["dimecandle_replay"]);
+    libraries(&package);
 }
 
 /// The folder that a variable names, else a usual one.
@@ -49,6 +58,8 @@ fn folder(package: &Path, variable: &str, usual: &str) -> PathBuf {
         None => package.join(usual),
     }
 }
+
+// ** The text
 
 fn text(package: &Path) {
     let source = folder(package, "RAFT_SRC", "../../shared/docs/src/src");
@@ -82,35 +93,70 @@ fn lay_out(package: &Path, source: &Path) {
     for file in STAND_INS {
         symlink(package.join("src/raft").join(file), text.join(file)).expect("a symbolic link");
     }
-    let modules: String = ["confchange", "quorum", "tracker"]
-        .iter()
-        .map(|name| format!("#[path = {:?}]\nmod {name};\n", text.join(name).join("mod.rs")))
-        .collect();
+    let module = |name: &str| format!("{NOT_OURS}\n#[path = {:?}]\nmod {name};\n", text.join(name).join("mod.rs"));
+    let modules: String = ["confchange", "quorum", "tracker"].map(module).concat();
     fs::write(text.join("modules.rs"), modules).expect("OUT_DIR can be written");
 }
 
-/// Puts the library behind its entries' names, or says why it is not there.
-fn library(package: &Path, name: &str, entries: &[&str]) {
+// ** The libraries
+
+/// Puts each library behind its entries' names, or says why it is not there.
+fn libraries(package: &Path) {
+    let mut found = vec![];
+    for (name, entries) in LIBRARIES {
+        let made = library(package, name, entries);
+        println!("cargo::rustc-env={}_MISSING={}", name.to_uppercase(), made.as_ref().err().map_or("", String::as_str));
+        if let Ok(archive) = made {
+            println!("cargo::rustc-cfg=lib{name}");
+            found.push((name, archive));
+        }
+    }
+    if for_x86_64() {
+        return link(&found);
+    }
+    let folder = folder(package, "DIMECANDLE_NATIVE", "../target/native");
+    let native = found.iter().map(|library| native(&folder, library)).collect::<Option<Vec<_>>>();
+    if !found.is_empty() {
+        println!("cargo::rustc-cfg=emulated");
+    }
+    if let Some(native @ [_, ..]) = native.as_deref() {
+        println!("cargo::rustc-cfg=native");
+        link(native);
+    }
+}
+
+fn for_x86_64() -> bool {
+    env::var("CARGO_CFG_TARGET_ARCH").expect("cargo names it") == "x86_64"
+}
+
+/// A library's name, and where it is.
+type Found<'a> = (&'a str, PathBuf);
+
+/// A library's native code, if it is there and not older than the x86-64 code.
+fn native<'a>(folder: &Path, (name, of): &Found<'a>) -> Option<Found<'a>> {
+    let archive = folder.join(format!("lib{name}.a"));
+    println!("cargo::rerun-if-changed={}", archive.display());
+    let made = |file: &Path| file.metadata().and_then(|known| known.modified()).ok();
+    (made(&archive)? >= made(of)?).then_some((*name, archive.canonicalize().ok()?))
+}
+
+fn link(found: &[Found]) {
+    for (name, archive) in found {
+        println!("cargo::rustc-cfg={name}_linked");
+        println!("cargo::rustc-link-arg-bins={}", archive.display());
+    }
+}
+
+/// The archive of a library whose code can be run, or why it cannot.
+fn library(package: &Path, name: &str, entries: &[&str]) -> Result<PathBuf, String> {
     let file = folder(package, "DIMECANDLE_LIBS", "../target/staticlib").join(format!("lib{name}.a"));
     println!("cargo::rerun-if-changed={}", file.display());
-    let for_x86_64 = env::var("CARGO_CFG_TARGET_ARCH").expect("cargo names it") == "x86_64";
-    let missing = match file.canonicalize() {
-        Err(_) => format!("lib{name}.a was not found when this was built"),
-        Ok(file) if for_x86_64 => {
-            println!("cargo::rustc-cfg=lib{name}");
-            println!("cargo::rustc-link-arg-bins={}", file.display());
-            String::new()
-        }
-        Ok(file) => match entries.iter().try_for_each(|entry| in_a_program(package, entry, &file)) {
-            Err(words) => format!("lib{name}.a could not be run when this was built ({words})"),
-            Ok(()) => {
-                println!("cargo::rustc-cfg=lib{name}");
-                println!("cargo::rustc-cfg=emulated");
-                String::new()
-            }
-        },
-    };
-    println!("cargo::rustc-env={}_MISSING={missing}", name.to_uppercase());
+    let file = file.canonicalize().map_err(|_| format!("lib{name}.a was not found when this was built"))?;
+    if !for_x86_64() {
+        let runs = entries.iter().try_for_each(|entry| in_a_program(package, entry, &file));
+        runs.map_err(|words| format!("lib{name}.a could not be run when this was built ({words})"))?;
+    }
+    Ok(file)
 }
 
 /// Puts an entry of the library into a program of its own, emulated.c, for the emulator.

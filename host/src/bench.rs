@@ -1,7 +1,8 @@
 //! Times both sides on the same calls and scripts. The Rust is asked on its own values; the other side is asked through its C entries, so
 //! a call's time has the reading of the request's 20,216 bytes and the writing of the reply's 13,960 in it. A script has neither, and
 //! unplug only the reading of the state's 7,736. A second table sets unplug beside the call that it stands for.
-//! Times are of the processor, so that other programs on the machine do not count; the shortest of many batches is shown.
+//! Times are of the processor, so that other programs on the machine do not count; the shortest of many batches is shown. What is timed
+//! is linked code: on x86-64 the static libraries', elsewhere the native code of the same LLVM modules. Emulated code is never timed.
 
 use crate::calls::{removal, APPLY_CONF, CHECK, ENTER_JOINT, LEAVE_JOINT, RESTORE, SIMPLE};
 use crate::compare::Comparison;
@@ -9,7 +10,7 @@ use crate::groups::scripts::script;
 use crate::oracle::{self, Replaying};
 use crate::run::CANNOT_RUN;
 use crate::script::{listing, ENTER, LEAVE, LONGEST_SCRIPT, RECORD, SIMPLE as RUN};
-use crate::subject::{say_missing, Linked, Subject, EMULATED};
+use crate::subject::{linked_code, say_missing, Linked, Subject, LINKED_IS_EMULATED};
 use crate::words::{
     Block, Change, Ids, List, Record, Request, ADD_LEARNER_NODE, ADD_NODE, REMOVE_NODE, REPLY_BYTES, VERDICT_WORDS,
 };
@@ -20,10 +21,12 @@ use std::process::ExitCode;
 use std::time::Duration;
 
 pub fn run() -> ExitCode {
-    if EMULATED {
-        println!("host: the static libraries are emulated here, and times of emulated code mean nothing");
+    if LINKED_IS_EMULATED {
+        println!("host: times of emulated code mean nothing; scripts/native makes native code of the libraries");
+        println!("host: the entries are emulated here, and not timed");
         return ExitCode::from(CANNOT_RUN);
     }
+    println!("the Rust in {}, and {}, on {}", env!("RAFT_SRC_TRIED"), linked_code(), processor());
     say_missing("its times are those of the model of the paper");
     header("Rust", "other");
     the_layout();
@@ -41,6 +44,16 @@ pub fn run() -> ExitCode {
         unplug_beside_simple(size);
     }
     ExitCode::SUCCESS
+}
+
+/// What Linux says of the processor: its name, or the numbers that it has in the place of one.
+fn processor() -> String {
+    let known = std::fs::read_to_string("/proc/cpuinfo").unwrap_or_default();
+    let said =
+        |key: &str| known.lines().find_map(|line| line.strip_prefix(key)?.trim_start().strip_prefix(": ").map(str::to_string));
+    let numbers = || Some(format!("CPU implementer {}, part {}", said("CPU implementer")?, said("CPU part")?));
+    let name: Option<String> = said("model name").or_else(numbers);
+    format!("{} ({})", std::env::consts::ARCH, name.unwrap_or_else(|| "no name known".to_string()))
 }
 
 const SIZES: [usize; 4] = [3, 5, 16, 64];

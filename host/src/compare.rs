@@ -3,9 +3,10 @@
 //! The subject has to agree with the Rust wherever the Rust has an answer (calls.rs, `in_domain`), and with the paper everywhere: also
 //! in which of several faults is named, in refusals that the paper adds, and in the bytes that stay as they were.
 
-use crate::calls::{self, call_in_domain, in_domain, paper_unplug, removal, rust_unplug, same_group, LEAVE_JOINT};
+use crate::beside::{Beside, Share};
+use crate::calls::{self, call_in_domain, in_domain, paper_unplug, removal, same_group, LEAVE_JOINT};
 use crate::model::Model;
-use crate::oracle::{rust_listing, Entries, Rust};
+use crate::oracle::{self, rust_listing, Rust};
 use crate::script::{LONGEST_SCRIPT, NO_ROOM, TOO_LONG};
 use crate::show;
 use crate::subject::Subject;
@@ -48,6 +49,13 @@ pub enum Input {
     Other(String),
 }
 
+/// Which of the two subjects.
+#[derive(Clone, Copy, PartialEq, Eq)]
+pub enum Side {
+    First,
+    Second,
+}
+
 pub struct Failure {
     pub input: Input,
     pub difference: Difference,
@@ -68,6 +76,13 @@ pub struct Steps {
     pub pairs: u64,
 }
 
+/// How many entries of accepted lists were looked at, in each of the two ways of oracle/idle.rs.
+#[derive(Default)]
+pub struct Entries {
+    pub plainly: u64,
+    pub repaired: u64,
+}
+
 /// Said where it is the Rust and the paper that differ.
 const AS_THE_PAPER: &str = "\nthe model of the paper answers as the subject does";
 
@@ -75,7 +90,12 @@ const AS_THE_PAPER: &str = "\nthe model of the paper answers as the subject does
 const TAIL: usize = 40;
 
 pub struct Comparison<'a> {
+    /// the one whose turn it is: the first, or the second
     pub subject: &'a dyn Subject,
+    first: &'a dyn Subject,
+    second: Option<Beside<'a>>,
+    /// where a difference was found; this one alone is then asked, on the way to a smaller input
+    pub differs: Option<Side>,
     rust: Rust,
     replies: [Box<Reply>; 3],
     lent: Vec<u8>,
@@ -84,17 +104,50 @@ pub struct Comparison<'a> {
     pub with_rust: u64,
     /// calls that the paper accepts
     pub accepted: u64,
-    /// answers in which the Rust, walking a hash set, named another fault of the group than the paper does
-    pub other_fault: u64,
+    other_fault: u64,
+    numbers: [u64; 21],
+    pub steps: Steps,
+}
+
+/// What is counted over all groups.
+#[derive(Default)]
+pub struct Totals {
     /// how often the paper gave each number
     pub numbers: [u64; 21],
+    /// answers in which the Rust, walking a hash set, named another fault of the group than the paper does
+    pub other_fault: u64,
+    pub entries: Entries,
     pub steps: Steps,
+}
+
+impl Totals {
+    pub fn add(&mut self, more: &Totals) {
+        for (count, more) in self.numbers.iter_mut().zip(more.numbers) {
+            *count += more;
+        }
+        self.other_fault += more.other_fault;
+        self.entries.plainly += more.entries.plainly;
+        self.entries.repaired += more.entries.repaired;
+        for (count, more) in self.steps.held.as_flattened_mut().iter_mut().zip(more.steps.held.as_flattened()) {
+            *count += more;
+        }
+        self.steps.plainly += more.steps.plainly;
+        self.steps.pairs += more.steps.pairs;
+    }
 }
 
 impl<'a> Comparison<'a> {
     pub fn new(subject: &'a dyn Subject) -> Comparison<'a> {
+        Comparison::with_second(subject, None)
+    }
+
+    /// The second is asked a share of the inputs too.
+    pub fn with_second(first: &'a dyn Subject, second: Option<&'a dyn Subject>) -> Comparison<'a> {
         Comparison {
-            subject,
+            subject: first,
+            first,
+            second: second.map(Beside::new),
+            differs: None,
             rust: Rust::default(),
             replies: [(); 3].map(|()| Box::new(Reply::zero())),
             lent: vec![0; REPLY_BYTES + TAIL],
@@ -105,6 +158,47 @@ impl<'a> Comparison<'a> {
             numbers: [0; 21],
             steps: Steps::default(),
         }
+    }
+
+    // ** The two sides
+
+    /// Before a group: its counts are those since then.
+    pub fn begin(&mut self, group: &'static str, share: Share) {
+        (self.inputs, self.with_rust, self.accepted) = (0, 0, 0);
+        (self.subject, self.differs) = (self.first, None);
+        if let Some(second) = &mut self.second {
+            second.begin(group, share);
+        }
+    }
+
+    /// How many of the group's inputs the second has been asked, if there is one.
+    pub fn asked_second(&self) -> Option<u64> {
+        self.second.as_ref().map(|second| second.asked)
+    }
+
+    /// Judges the first and, where it is asked this input, the second: the first difference.
+    pub fn each_side(&mut self, mut judge: impl FnMut(&mut Self) -> Option<Difference>) -> Option<Difference> {
+        let difference = judge(self);
+        if self.differs.is_none() && difference.is_some() {
+            self.differs = Some(Side::First);
+        }
+        difference.or_else(|| self.second_side(judge))
+    }
+
+    /// Judges the second alone, where it is asked this input.
+    pub fn second_side(&mut self, judge: impl FnOnce(&mut Self) -> Option<Difference>) -> Option<Difference> {
+        let inputs = self.inputs;
+        let second = self.second.as_mut().filter(|_| self.differs.is_none())?;
+        if !second.takes(inputs) {
+            return None;
+        }
+        self.subject = second.subject;
+        let difference = judge(self);
+        match &difference {
+            Some(_) => self.differs = Some(Side::Second),
+            None => self.subject = self.first,
+        }
+        difference
     }
 
     // ** Calls
@@ -140,7 +234,7 @@ impl<'a> Comparison<'a> {
             return (paper, None);
         }
         rust.giving_back(&request.state);
-        (call.rust)(&mut self.rust, request, rust);
+        self.rust.answer(request, rust);
         (paper, Some(rust))
     }
 
@@ -149,14 +243,21 @@ impl<'a> Comparison<'a> {
         &self.replies[2]
     }
 
-    /// How the entries of the accepted lists were judged.
-    pub fn entries(&self) -> &Entries {
-        &self.rust.entries
+    pub fn into_totals(self) -> Totals {
+        Totals { numbers: self.numbers, other_fault: self.other_fault, entries: self.rust.entries, steps: self.steps }
     }
 
     pub fn call_difference(&mut self, request: &Request) -> Option<Difference> {
         let with_rust = self.expected(request).1.is_some();
         self.with_rust += u64::from(with_rust);
+        let difference = self.each_side(|this| this.reply_difference(request, with_rust));
+        let [paper, rust, _] = &self.replies;
+        self.other_fault += u64::from(difference.is_none() && with_rust && rust.verdict() != paper.verdict());
+        difference
+    }
+
+    /// Asks the subject, and holds its reply against the Rust's, where there is one, and the paper's: those of `expected`.
+    pub fn reply_difference(&mut self, request: &Request, with_rust: bool) -> Option<Difference> {
         if let Err(what) = self.ask(request) {
             return Some(from_the_paper(what));
         }
@@ -168,11 +269,7 @@ impl<'a> Comparison<'a> {
             }
             return Some(Difference { against: Against::Rust, what });
         }
-        self.other_fault += u64::from(with_rust && rust.verdict() != paper.verdict());
-        if subject != paper {
-            return Some(from_the_paper(show::differences(subject, paper)));
-        }
-        None
+        (subject != paper).then(|| from_the_paper(show::differences(subject, paper)))
     }
 
     /// The subject's reply into its place. The request stays as it is, and so do the bytes after the reply.
@@ -213,14 +310,23 @@ impl<'a> Comparison<'a> {
         }
     }
 
-    /// The subject's verdict, or how it differs.
+    /// The verdict of all sides, or how one differs.
     pub fn unplugged(&mut self, state: &State, id: u64, beside_simple: bool) -> Result<Verdict, Difference> {
-        let verdict = self.ask_unplug(state, id).map_err(from_the_paper)?;
-        self.judge(state, id, verdict)?;
-        if beside_simple {
-            self.hold_beside_simple(state, id, verdict).map_err(from_the_paper)?;
+        let right = self.right_verdict(state, id);
+        match self.each_side(|this| this.verdict_difference(state, id, &right, beside_simple)) {
+            None => Ok(right.paper),
+            Some(difference) => Err(difference),
         }
-        Ok(verdict)
+    }
+
+    /// Asks the subject, and holds its verdict against the right one.
+    pub fn verdict_difference(&mut self, state: &State, id: u64, right: &Right, beside_simple: bool) -> Option<Difference> {
+        let verdict = match self.ask_unplug(state, id) {
+            Ok(verdict) => verdict,
+            Err(what) => return Some(from_the_paper(what)),
+        };
+        let beside = |this: &mut Self| this.hold_beside_simple(state, id, verdict).err().map(from_the_paper);
+        right.difference(state, verdict).or_else(|| if beside_simple { beside(self) } else { None })
     }
 
     /// The subject's verdict. The words after it, which are lent every second time, stay as they are, and so does the state.
@@ -245,23 +351,12 @@ impl<'a> Comparison<'a> {
         Ok(*verdict)
     }
 
-    /// Holds a verdict against the Rust's and the paper's.
-    pub fn judge(&mut self, state: &State, id: u64, verdict: Verdict) -> Result<(), Difference> {
+    pub fn right_verdict(&mut self, state: &State, id: u64) -> Right {
         let paper = paper_unplug(&Model::PAPER, state, id);
-        if in_domain(state, paper[0]) {
-            self.with_rust += 1;
-            let rust = rust_unplug(&mut self.rust, state, id);
-            if verdict != rust && !same_group(state, false, verdict, rust) {
-                let as_the_paper = if verdict == paper { AS_THE_PAPER } else { "" };
-                let what = format!("{}{as_the_paper}", show::verdicts(verdict, rust));
-                return Err(Difference { against: Against::Rust, what });
-            }
-            self.other_fault += u64::from(rust != paper);
-        }
-        if verdict != paper {
-            return Err(from_the_paper(show::verdicts(verdict, paper)));
-        }
-        Ok(())
+        let rust = in_domain(state, paper[0]).then(|| self.rust.unplug(state, id));
+        self.with_rust += u64::from(rust.is_some());
+        self.other_fault += u64::from(rust.is_some_and(|rust| rust != paper));
+        Right { paper, rust }
     }
 
     /// "the number and id returned equal those of `simple` with that single removal": here of the subject's own.
@@ -292,15 +387,23 @@ impl<'a> Comparison<'a> {
     pub fn script_difference(&mut self, script: &[u8], rooms: &[Room]) -> Option<Difference> {
         if script.len() > LONGEST_SCRIPT {
             self.count(19);
-            let untouched = |room| self.replay(script, room, Err(TOO_LONG));
-            let what = [0, 1, 100_000].into_iter().find_map(untouched)?;
-            return Some(from_the_paper(what));
+            let untouched =
+                |this: &mut Self| [0, 1, 100_000].into_iter().find_map(|room| this.replay(script, room, Err(TOO_LONG)));
+            return self.each_side(|this| untouched(this).map(from_the_paper));
         }
-        self.with_rust += 1;
-        let (rust, paper) = (rust_listing(script), Model::PAPER.listing(script));
-        let mut differs = |text: &[u8]| rooms.iter().find_map(|room| self.replay_in(script, *room, text));
-        let from_rust = differs(&rust);
-        let from_paper = if rust == paper { None } else { differs(&paper) };
+        let paper = Model::PAPER.listing(script);
+        let rust = oracle::AT_HAND.then(|| rust_listing(script));
+        self.with_rust += u64::from(rust.is_some());
+        self.count_rooms(rooms, &paper);
+        self.each_side(|this| this.listing_difference(script, rooms, rust.as_deref(), &paper))
+    }
+
+    /// Asks the subject for a listing, in each room, and holds it against the Rust's, where there is one, and the paper's.
+    fn listing_difference(&self, script: &[u8], rooms: &[Room], rust: Option<&[u8]>, paper: &[u8]) -> Option<Difference> {
+        let differs = |text: &[u8]| rooms.iter().find_map(|room| self.replay_in(script, *room, text));
+        let Some(rust) = rust else { return differs(paper).map(from_the_paper) };
+        let from_rust = differs(rust);
+        let from_paper = if rust == paper { None } else { differs(paper) };
         match (from_rust, from_paper) {
             (Some(mut what), from_paper) => {
                 if rust != paper && from_paper.is_none() {
@@ -312,20 +415,24 @@ impl<'a> Comparison<'a> {
         }
     }
 
-    fn replay_in(&mut self, script: &[u8], room: Room, text: &[u8]) -> Option<String> {
+    /// 20 comes of a room that is a byte short.
+    fn count_rooms(&mut self, rooms: &[Room], paper: &[u8]) {
+        if !paper.is_empty() && rooms.iter().any(|room| matches!(room, Room::OneShort)) {
+            self.count(20);
+        }
+    }
+
+    fn replay_in(&self, script: &[u8], room: Room, text: &[u8]) -> Option<String> {
         match room {
             Room::Exact => self.replay(script, text.len(), Ok(text)),
             Room::Longer => self.replay(script, text.len() + TAIL, Ok(text)),
             Room::OneShort if text.is_empty() => None,
-            Room::OneShort => {
-                self.count(20);
-                self.replay(script, text.len() - 1, Err(NO_ROOM))
-            }
+            Room::OneShort => self.replay(script, text.len() - 1, Err(NO_ROOM)),
         }
     }
 
     /// The subject's listing, in an output of ample length, beside the right one.
-    fn listing_difference(&self, script: &[u8], text: &[u8]) -> String {
+    fn listing_beside(&self, script: &[u8], text: &[u8]) -> String {
         let mut out = vec![0; AMPLE];
         match self.subject.replay(script, &mut out) as usize {
             length if length <= AMPLE => format!("\n{}", show::listings(&out[..length], text)),
@@ -343,13 +450,31 @@ impl<'a> Comparison<'a> {
             Err(number) => (number, &[][..]),
         };
         if returned != value {
-            let found = expected.map_or_else(|_| String::new(), |text| self.listing_difference(script, text));
+            let found = expected.map_or_else(|_| String::new(), |text| self.listing_beside(script, text));
             return Some(format!("with {room} bytes of output it returned {returned} and not {value}{found}"));
         }
         if out[..text.len()] != *text {
             return Some(show::listings(&out[..text.len()], text));
         }
         (out[text.len()..] != before[text.len()..]).then(|| "bytes after the listing were written".to_string())
+    }
+}
+
+/// The paper's verdict on one box, and the Rust's where it has one.
+pub struct Right {
+    paper: Verdict,
+    rust: Option<Verdict>,
+}
+
+impl Right {
+    /// How another verdict on the state differs.
+    pub fn difference(&self, state: &State, verdict: Verdict) -> Option<Difference> {
+        if let Some(rust) = self.rust.filter(|&rust| verdict != rust && !same_group(state, false, verdict, rust)) {
+            let as_the_paper = if verdict == self.paper { AS_THE_PAPER } else { "" };
+            let what = format!("{}{as_the_paper}", show::verdicts(verdict, rust));
+            return Some(Difference { against: Against::Rust, what });
+        }
+        (verdict != self.paper).then(|| from_the_paper(show::verdicts(verdict, self.paper)))
     }
 }
 

@@ -15,8 +15,10 @@
 //! The names are those of crate raft 0.7.0: what `Changer::new(&tracker).simple(..)` is there, `tracker.simple(..)` is here; but what
 //! `restore` does there, `restore_step_by_step` does here. Every function answers for every input; none panics, and a refusal leaves the
 //! tracker as it was. The one exception is `restore_step_by_step`, whose accepted steps stay. A set or the tracked ids may hold at most 64
-//! ids, a list of changes and a log 256 entries; longer ones are refused.
+//! ids, a list of changes and a log 256 entries; longer ones are refused. A library of another layout than this file has is told by what
+//! its entries return: each call is then refused with `OTHER_LAYOUT`.
 
+// a program may call some of it only
 #![allow(dead_code)]
 
 use std::collections::{BTreeMap, BTreeSet};
@@ -73,6 +75,8 @@ pub struct ConfState {
     pub auto_leave: bool,
 }
 
+/// The names are the Rust's.
+#[allow(clippy::enum_variant_names)]
 #[derive(Clone, Copy, Debug, PartialEq, Eq)]
 pub enum ConfChangeType {
     AddNode,
@@ -121,6 +125,9 @@ pub struct Answer {
     pub idle: u64,
 }
 
+/// The number of a refusal that is not the library's: it has another layout than this file.
+pub const OTHER_LAYOUT: u64 = u64::MAX;
+
 /// Why a call was refused: the number, and the id that it concerns, else 0. `to_string` says it in words.
 #[derive(Clone, Copy, Debug, PartialEq, Eq)]
 pub struct Refused {
@@ -152,6 +159,7 @@ impl fmt::Display for Refused {
             18 => write!(f, "more than one voter would change: enter a joint configuration for that"),
             19 => write!(f, "the script is longer than 65,536 bytes"),
             20 => write!(f, "the listing is longer than the output lent for it"),
+            OTHER_LAYOUT => write!(f, "libcalls.a has another layout than dimecandle.rs"),
             number => write!(f, "refused with {number}"),
         }
     }
@@ -208,11 +216,11 @@ impl Tracker {
     /// Runs the same changes as `restore`, and is refused where that is, with the same number and id. But the changes before the refused one
     /// stay, as they do in the Rust's own `restore`. Use this one for an import that wants to keep what was accepted before the refused step.
     pub fn restore_step_by_step(&mut self, next_idx: u64, state: &ConfState) -> Result<(), Refused> {
-        let (reply, refused) = Request::restoring(RESTORE_STEP_BY_STEP, self, next_idx, state).run();
+        let reply = Request::restoring(RESTORE_STEP_BY_STEP, self, next_idx, state).run()?;
         if reply.words[REPLY_NUMBER] != MALFORMED {
             *self = reply.tracker();
         }
-        refused
+        reply.verdict()
     }
 
     /// Whether this one box can be removed by `simple` now; number and id are those that `simple` with that removal would be refused with.
@@ -221,8 +229,7 @@ impl Tracker {
         let (mut state, mut verdict) = ([0; STATE], [0; VERDICT]);
         put_tracker(&mut state, self);
         // the entry reads the one and writes the other, each over its whole length
-        let done = unsafe { dimecandle_unplug(state.as_ptr(), STATE, id, verdict.as_mut_ptr(), VERDICT) };
-        assert_eq!(done, 0, "{OTHER_LAYOUT}");
+        same_layout(unsafe { dimecandle_unplug(state.as_ptr(), STATE, id, verdict.as_mut_ptr(), VERDICT) })?;
         refused(verdict)
     }
 
@@ -231,7 +238,9 @@ impl Tracker {
         Ok(Request::of(TO_CONF_STATE, self).answer()?.conf_state())
     }
 
-    /// Whether configuration and tracked boxes go together; each other call asks this first.
+    /// Whether configuration and tracked boxes go together. Where they do not, `simple`, `enter_joint`, `leave_joint` and `can_unplug` are
+    /// refused too, and so is each step of either restore; `in_order` says no. `apply_conf` and `to_conf_state` do not ask, nor does a
+    /// restore of four empty lists, which has no step.
     pub fn check(&self) -> Result<(), Refused> {
         Request::of(CHECK, self).answer().map(|_| ())
     }
@@ -241,8 +250,7 @@ impl Tracker {
     /// applied to the tracker that gave them, is. From a joint tracker in order `leave_joint` is accepted; and one in order with an incoming
     /// voter, written out and restored to a new tracker, gives its configuration back.
     pub fn in_order(&self) -> bool {
-        let (reply, _) = Request::of(IN_ORDER, self).run();
-        reply.words[REPLY_YES] == 1
+        Request::of(IN_ORDER, self).run().is_ok_and(|reply| reply.words[REPLY_YES] == 1)
     }
 }
 
@@ -253,7 +261,13 @@ unsafe extern "C" {
     fn dimecandle_unplug(state: *const u64, state_len: usize, id: u64, verdict: *mut u64, verdict_len: usize) -> u64;
 }
 
-const OTHER_LAYOUT: &str = "libcalls.a has another layout than this file";
+/// An entry returns 0, unless it was handed lengths, a call or words that its layout has not.
+fn same_layout(returned: u64) -> Result<(), Refused> {
+    match returned {
+        0 => Ok(()),
+        _ => Err(Refused { number: OTHER_LAYOUT, id: 0 }),
+    }
+}
 
 // A word is handed over as it lies in memory. That libcalls.a is for x86-64 the linker says.
 #[cfg(not(target_endian = "little"))]
@@ -339,23 +353,27 @@ impl Request {
         list[2 * LIST_PLACES + 1] = shown.len() as u64;
     }
 
-    /// The reply, and the refusal that it holds.
-    fn run(&self) -> (Reply, Result<(), Refused>) {
+    /// The reply, a refusal or not.
+    fn run(&self) -> Result<Reply, Refused> {
         let mut words = vec![0u64; REPLY];
         // the entry reads the one and writes the other, each over its whole length
-        let done = unsafe { dimecandle_call(self.words.as_ptr().cast(), REQUEST * 8, words.as_mut_ptr().cast(), REPLY * 8) };
-        assert_eq!(done, 0, "{OTHER_LAYOUT}");
-        let refused = refused([words[REPLY_NUMBER], words[REPLY_ID]]);
-        (Reply { words }, refused)
+        same_layout(unsafe { dimecandle_call(self.words.as_ptr().cast(), REQUEST * 8, words.as_mut_ptr().cast(), REPLY * 8) })?;
+        Ok(Reply { words })
     }
 
+    /// The reply to an accepted call.
     fn answer(&self) -> Result<Reply, Refused> {
-        let (reply, refused) = self.run();
-        refused.map(|()| reply)
+        let reply = self.run()?;
+        reply.verdict()?;
+        Ok(reply)
     }
 }
 
 impl Reply {
+    fn verdict(&self) -> Result<(), Refused> {
+        refused([self.words[REPLY_NUMBER], self.words[REPLY_ID]])
+    }
+
     fn changed(&self) -> Answer {
         Answer {
             conf: configuration(&self.words[REPLY_STATE..]),
@@ -396,8 +414,9 @@ fn put_ids<'a>(words: &mut [u64], ids: impl ExactSizeIterator<Item = &'a u64>) {
     }
 }
 
+/// A reply has no count above 64.
 fn ids(words: &[u64]) -> &[u64] {
-    &words[..words[IDS] as usize]
+    &words[..words[IDS].min(IDS as u64) as usize]
 }
 
 fn set(words: &[u64]) -> BTreeSet<u64> {
@@ -437,9 +456,9 @@ fn put_log(words: &mut [u64], log: &MapChange) {
 }
 
 fn log(words: &[u64]) -> MapChange {
-    let kinds = [MapChangeType::Add, MapChangeType::Remove];
+    let kind = |word: u64| if word == 0 { MapChangeType::Add } else { MapChangeType::Remove };
     let count = words[2 * LOG_PLACES] as usize;
-    words.chunks_exact(2).take(count).map(|entry| (entry[0], kinds[entry[1] as usize])).collect()
+    words[..2 * LOG_PLACES].chunks_exact(2).take(count).map(|entry| (entry[0], kind(entry[1]))).collect()
 }
 
 fn put_tracker(words: &mut [u64], tracker: &Tracker) {
@@ -476,7 +495,11 @@ fn progress(record: &[u64]) -> Progress {
     Progress {
         matched: record[0],
         next_idx: record[1],
-        state: [ProgressState::Probe, ProgressState::Replicate, ProgressState::Snapshot][record[2] as usize],
+        state: match record[2] {
+            0 => ProgressState::Probe,
+            1 => ProgressState::Replicate,
+            _ => ProgressState::Snapshot,
+        },
         paused: record[3] == 1,
         pending_snapshot: record[4],
         pending_request_snapshot: record[5],

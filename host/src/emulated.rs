@@ -1,76 +1,81 @@
-//! The static libraries on a processor that is not an x86-64: each entry in a program of its own (emulated.c, which also has the frames),
-//! run by the emulator and asked through pipes. The entries' names are here, in the place of linked libraries.
+//! The x86-64 code of the static libraries on a processor that is not an x86-64: each entry in a program of its
+//! own (emulated.c, which also has the frames), run by the emulator and asked through pipes.
 
+use crate::subject::Subject;
+use std::cell::{Cell, RefCell};
 use std::io::{Read, Write};
 use std::process::{Child, Command, Stdio};
 use std::slice;
-use std::sync::atomic::{AtomicBool, AtomicUsize, Ordering::Relaxed};
-use std::sync::{LazyLock, Mutex};
+use std::thread::LocalKey;
 
-#[cfg(libcalls)]
-static CALL: LazyLock<Mutex<Program>> = LazyLock::new(|| Program::start(env!("DIMECANDLE_CALL_PROGRAM")));
+/// The entries, each in its program. One whose library is not at hand is not asked.
+pub struct Emulated;
 
-#[cfg(libcalls)]
-static UNPLUG: LazyLock<Mutex<Program>> = LazyLock::new(|| Program::start(env!("DIMECANDLE_UNPLUG_PROGRAM")));
-
-#[cfg(liblisting)]
-static REPLAY: LazyLock<Mutex<Program>> = LazyLock::new(|| Program::start(env!("DIMECANDLE_REPLAY_PROGRAM")));
-
-#[cfg(libcalls)]
-#[no_mangle]
-unsafe extern "C" fn dimecandle_call(request: *const u8, n: usize, reply: *mut u8, m: usize) -> u64 {
-    ask(&CALL, slice::from_raw_parts(request, n), slice::from_raw_parts_mut(reply, m))
+// Each thread has programs of its own: they are asked side by side.
+thread_local! {
+    static CALL: RefCell<Program> = Program::start(option_env!("DIMECANDLE_CALL_PROGRAM"));
+    static UNPLUG: RefCell<Program> = Program::start(option_env!("DIMECANDLE_UNPLUG_PROGRAM"));
+    static REPLAY: RefCell<Program> = Program::start(option_env!("DIMECANDLE_REPLAY_PROGRAM"));
 }
 
-/// The given bytes are the id and then the state, the lent ones the verdict.
-#[cfg(libcalls)]
-#[no_mangle]
-unsafe extern "C" fn dimecandle_unplug(state: *const u64, n: usize, id: u64, verdict: *mut u64, m: usize) -> u64 {
-    let state = slice::from_raw_parts(state.cast::<u8>(), 8 * n);
-    let given = [&id.to_le_bytes()[..], state].concat();
-    ask(&UNPLUG, &given, slice::from_raw_parts_mut(verdict.cast(), 8 * m))
+impl Subject for Emulated {
+    fn call(&self, request: &[u8], reply: &mut [u8]) -> u64 {
+        ask(&CALL, request, reply)
+    }
+
+    /// The given bytes are the id and then the state, the lent ones the verdict.
+    fn unplug(&self, state: &[u64], id: u64, verdict: &mut [u64]) -> u64 {
+        let given: Vec<u8> = [id].iter().chain(state).flat_map(|word| word.to_le_bytes()).collect();
+        // words are bytes too
+        let lent = unsafe { slice::from_raw_parts_mut(verdict.as_mut_ptr().cast(), 8 * verdict.len()) };
+        ask(&UNPLUG, &given, lent)
+    }
+
+    fn replay(&self, script: &[u8], out: &mut [u8]) -> u64 {
+        ask(&REPLAY, script, out)
+    }
 }
 
-#[cfg(liblisting)]
-#[no_mangle]
-unsafe extern "C" fn dimecandle_replay(script: *const u8, n: usize, out: *mut u8, m: usize) -> u64 {
-    ask(&REPLAY, slice::from_raw_parts(script, n), slice::from_raw_parts_mut(out, m))
+thread_local! {
+    /// Whether the stack of what is asked is measured, and the most that was needed since.
+    static MEASURED: Cell<bool> = const { Cell::new(false) };
+    static PEAK: Cell<usize> = const { Cell::new(0) };
 }
-
-/// Whether the stack of what is asked is measured, and the most that was needed since.
-static MEASURED: AtomicBool = AtomicBool::new(false);
-static PEAK: AtomicUsize = AtomicUsize::new(0);
 
 /// Does something with the stack measured of each entry that it asks: the most that one needed.
+#[cfg(emulated)]
 pub fn peak(work: impl FnOnce()) -> usize {
-    PEAK.store(0, Relaxed);
-    MEASURED.store(true, Relaxed);
+    PEAK.set(0);
+    MEASURED.set(true);
     work();
-    MEASURED.store(false, Relaxed);
-    PEAK.load(Relaxed)
+    MEASURED.set(false);
+    PEAK.get()
 }
 
-fn ask(program: &Mutex<Program>, given: &[u8], lent: &mut [u8]) -> u64 {
-    let mut program = program.lock().expect("no answer is missing");
-    let [returned, stack] = program.ask(MEASURED.load(Relaxed), given, lent).expect("the emulated program answers");
-    PEAK.fetch_max(stack as usize, Relaxed);
+fn ask(program: &'static LocalKey<RefCell<Program>>, given: &[u8], lent: &mut [u8]) -> u64 {
+    let answer = program.with_borrow_mut(|program| program.ask(MEASURED.get(), given, lent));
+    let [returned, stack] = answer.expect("the emulated program answers");
+    PEAK.set(PEAK.get().max(stack as usize));
     returned
 }
 
 /// The stack that a program has: twice what it fills where the stack is measured.
 const STACK_KIB: &str = "8192";
 
-/// A running program. It ends with its input, which ends when this program does.
+/// A running program. It ends with its input, which ends when its thread does.
 struct Program {
     child: Child,
     frame: Vec<u8>,
 }
 
 impl Program {
-    fn start(program: &str) -> Mutex<Program> {
-        let mut command = Command::new(env!("EMULATOR"));
+    fn start(program: Option<&str>) -> RefCell<Program> {
+        let (Some(emulator), Some(program)) = (option_env!("EMULATOR"), program) else {
+            unreachable!("only what was built for the emulator is asked")
+        };
+        let mut command = Command::new(emulator);
         command.args(["--stack", STACK_KIB, program]).stdin(Stdio::piped()).stdout(Stdio::piped());
-        Mutex::new(Program { child: command.spawn().expect("the emulator starts"), frame: vec![] })
+        RefCell::new(Program { child: command.spawn().expect("the emulator starts"), frame: vec![] })
     }
 
     /// One frame and its answer: what the entry returned, and its stack where that is measured. The lent bytes go there and come back.
@@ -87,5 +92,13 @@ impl Program {
         output.read_exact(words.as_flattened_mut())?;
         output.read_exact(lent)?;
         Ok(words.map(u64::from_le_bytes))
+    }
+}
+
+impl Drop for Program {
+    fn drop(&mut self) {
+        drop(self.child.stdin.take());
+        // whatever it ends with: each of its answers has been looked at
+        let _ = self.child.wait();
     }
 }

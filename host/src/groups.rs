@@ -13,8 +13,10 @@ mod restores;
 pub mod scripts;
 mod states;
 mod unplug;
+mod vectors;
 pub mod wrapper;
 
+use crate::beside::Share;
 use crate::compare::{Compared, Comparison};
 use crate::random::Random;
 
@@ -45,6 +47,8 @@ pub enum Entry {
     Replay,
     /// those of libcalls.a through dimecandle.rs: always the linked ones
     Wrapper,
+    /// the recorded cases: calls and scripts
+    Vectors,
     /// none: the group is about what other groups rest on, and asks nothing of the subject
     None,
 }
@@ -52,52 +56,71 @@ pub enum Entry {
 pub struct Group {
     pub name: &'static str,
     pub entry: Entry,
+    /// how much of it emulated code is asked, where that is asked beside native code
+    pub emulated: Share,
     pub run: fn(&mut Comparison, &mut Random, Size) -> Compared,
 }
 
+impl Group {
+    /// Whether it belongs to the comparison with the Rust, or compares something else: the wrapper, and answers that were recorded.
+    pub fn beside_the_rust(&self) -> bool {
+        !matches!(self.entry, Entry::Wrapper | Entry::Vectors)
+    }
+
+    /// Whether it asks the Rust alone, and is nothing without its text.
+    pub fn of_the_rust_alone(&self) -> bool {
+        self.name == idle::BOTH_WAYS
+    }
+}
+
+/// Examples, limits, edges of the entries and scripts.
+const ALL: Share = Share::All;
+const SOME: Share = Share::OneInTwenty;
+
 #[rustfmt::skip]
-pub const GROUPS: [Group; 43] = [
-    Group { name: "calls: the examples of document 01", entry: Entry::Call, run: examples::examples },
-    Group { name: "calls: every state over two ids, every list of up to two changes", entry: Entry::Call, run: states::two_ids },
-    Group { name: "calls: every state over three ids, every single change", entry: Entry::Call, run: states::three_ids },
-    Group { name: "calls: every state over three ids that passes the check, every list of up to three", entry: Entry::Call, run: states::passing },
-    Group { name: "apply_conf: every state over two ids, every log of up to two", entry: Entry::Call, run: states::apply_logs },
-    Group { name: "apply_conf: every tracked subset of three ids, every log of up to four", entry: Entry::Call, run: states::apply_long_logs },
-    Group { name: "apply_conf: every configuration over two ids", entry: Entry::Call, run: states::apply_confs },
-    Group { name: "both restores: to fresh, every four lists of up to two ids", entry: Entry::Call, run: restores::to_fresh },
-    Group { name: "both restores: to every state over two ids, every four lists of up to one id", entry: Entry::Call, run: restores::to_any },
-    Group { name: "calls: random states in order", entry: Entry::Call, run: random::in_order },
-    Group { name: "calls: random states with ids of two roles", entry: Entry::Call, run: random::two_roles },
-    Group { name: "calls: random states with faults, idle boxes, id 0", entry: Entry::Call, run: random::faulty },
-    Group { name: "calls: random malformed states, configurations, logs, lists", entry: Entry::Call, run: random::malformed },
-    Group { name: "calls: random sequences from fresh, each answer applied", entry: Entry::Call, run: random::sequences },
-    Group { name: "calls: lists of 250 to 260", entry: Entry::Call, run: limits::long_lists },
-    Group { name: "calls: 60 to 64 tracked, room freed and used", entry: Entry::Call, run: limits::full },
-    Group { name: "calls: ids 0 and 2^64 - 1", entry: Entry::Call, run: limits::ends },
-    Group { name: "idle entries: examples worked by hand", entry: Entry::Call, run: idle::examples },
-    Group { name: "idle entries: the Rust's prefixes plainly and with repairs", entry: Entry::Call, run: idle::both_ways },
-    Group { name: "in order: every state over two and three ids, left, written out and restored", entry: Entry::Call, run: order::small },
-    Group { name: "in order: random states, left, written out and restored", entry: Entry::Call, run: order::random },
-    Group { name: "neighbours: quorums by hand", entry: Entry::None, run: quorums::by_hand },
-    Group { name: "neighbours: wrong rules and wrong quorums break the sentence", entry: Entry::None, run: quorums::broken },
-    Group { name: "neighbours: every state in order over two and three ids, every list of up to two changes", entry: Entry::Call, run: neighbours::small },
-    Group { name: "neighbours: random states in order of every size, one voter changed, a rack swapped", entry: Entry::Call, run: neighbours::random },
-    Group { name: "neighbours: small restores to fresh, by their own steps", entry: Entry::Call, run: neighbours::restores },
-    Group { name: "neighbours: random sequences, restores by their own steps", entry: Entry::Call, run: neighbours::sequences },
-    Group { name: "bytes: lengths, unknown calls, words that no field can hold", entry: Entry::Call, run: bytes::bytes },
-    Group { name: "unplug: every state over two ids, every id", entry: Entry::Unplug, run: unplug::two_ids },
-    Group { name: "unplug: every state over three ids", entry: Entry::Unplug, run: unplug::three_ids },
-    Group { name: "unplug: random states in order", entry: Entry::Unplug, run: unplug::in_order },
-    Group { name: "unplug: random states with ids of two roles, faults, idle boxes, id 0", entry: Entry::Unplug, run: unplug::faulty },
-    Group { name: "unplug: random malformed states", entry: Entry::Unplug, run: unplug::malformed },
-    Group { name: "unplug: lengths, words that no field can hold", entry: Entry::Unplug, run: unplug::words },
-    Group { name: "wrapper: dimecandle.rs on random states", entry: Entry::Wrapper, run: wrapper::wrapper },
-    Group { name: "scripts: the listing of document 01", entry: Entry::Replay, run: scripts::example },
-    Group { name: "scripts: every one of a few records over two ids", entry: Entry::Replay, run: scripts::every },
-    Group { name: "scripts: random over few ids", entry: Entry::Replay, run: scripts::few_ids },
-    Group { name: "scripts: random over more than 64 ids", entry: Entry::Replay, run: scripts::many_ids },
-    Group { name: "scripts: cut at every length", entry: Entry::Replay, run: scripts::cut },
-    Group { name: "scripts: damaged", entry: Entry::Replay, run: scripts::damaged },
-    Group { name: "scripts: 255 to 257 pending", entry: Entry::Replay, run: scripts::pending },
-    Group { name: "scripts: 65,535 to 65,537 bytes, the longest listings", entry: Entry::Replay, run: scripts::longest },
+pub const GROUPS: [Group; 44] = [
+    Group { name: "calls: the examples of document 01", entry: Entry::Call, emulated: ALL, run: examples::examples },
+    Group { name: "calls: every state over two ids, every list of up to two changes", entry: Entry::Call, emulated: SOME, run: states::two_ids },
+    Group { name: "calls: every state over three ids, every single change", entry: Entry::Call, emulated: SOME, run: states::three_ids },
+    Group { name: "calls: every state over three ids that passes the check, every list of up to three", entry: Entry::Call, emulated: SOME, run: states::passing },
+    Group { name: "apply_conf: every state over two ids, every log of up to two", entry: Entry::Call, emulated: SOME, run: states::apply_logs },
+    Group { name: "apply_conf: every tracked subset of three ids, every log of up to four", entry: Entry::Call, emulated: SOME, run: states::apply_long_logs },
+    Group { name: "apply_conf: every configuration over two ids", entry: Entry::Call, emulated: SOME, run: states::apply_confs },
+    Group { name: "both restores: to fresh, every four lists of up to two ids", entry: Entry::Call, emulated: SOME, run: restores::to_fresh },
+    Group { name: "both restores: to every state over two ids, every four lists of up to one id", entry: Entry::Call, emulated: SOME, run: restores::to_any },
+    Group { name: "calls: random states in order", entry: Entry::Call, emulated: SOME, run: random::in_order },
+    Group { name: "calls: random states with ids of two roles", entry: Entry::Call, emulated: SOME, run: random::two_roles },
+    Group { name: "calls: random states with faults, idle boxes, id 0", entry: Entry::Call, emulated: SOME, run: random::faulty },
+    Group { name: "calls: random malformed states, configurations, logs, lists", entry: Entry::Call, emulated: SOME, run: random::malformed },
+    Group { name: "calls: random sequences from fresh, each answer applied", entry: Entry::Call, emulated: SOME, run: random::sequences },
+    Group { name: "calls: lists of 250 to 260", entry: Entry::Call, emulated: ALL, run: limits::long_lists },
+    Group { name: "calls: 60 to 64 tracked, room freed and used", entry: Entry::Call, emulated: ALL, run: limits::full },
+    Group { name: "calls: ids 0 and 2^64 - 1", entry: Entry::Call, emulated: ALL, run: limits::ends },
+    Group { name: "idle entries: examples worked by hand", entry: Entry::Call, emulated: ALL, run: idle::examples },
+    Group { name: idle::BOTH_WAYS, entry: Entry::None, emulated: ALL, run: idle::both_ways },
+    Group { name: "in order: every state over two and three ids, left, written out and restored", entry: Entry::Call, emulated: SOME, run: order::small },
+    Group { name: "in order: random states, left, written out and restored", entry: Entry::Call, emulated: SOME, run: order::random },
+    Group { name: "neighbours: quorums by hand", entry: Entry::None, emulated: ALL, run: quorums::by_hand },
+    Group { name: "neighbours: wrong rules and wrong quorums break the sentence", entry: Entry::None, emulated: ALL, run: quorums::broken },
+    Group { name: "neighbours: every state in order over two and three ids, every list of up to two changes", entry: Entry::Call, emulated: SOME, run: neighbours::small },
+    Group { name: "neighbours: random states in order of every size, one voter changed, a rack swapped", entry: Entry::Call, emulated: SOME, run: neighbours::random },
+    Group { name: "neighbours: small restores to fresh, by their own steps", entry: Entry::Call, emulated: SOME, run: neighbours::restores },
+    Group { name: "neighbours: random sequences, restores by their own steps", entry: Entry::Call, emulated: SOME, run: neighbours::sequences },
+    Group { name: "bytes: lengths, unknown calls, words that no field can hold", entry: Entry::Call, emulated: ALL, run: bytes::bytes },
+    Group { name: "unplug: every state over two ids, every id", entry: Entry::Unplug, emulated: SOME, run: unplug::two_ids },
+    Group { name: "unplug: every state over three ids", entry: Entry::Unplug, emulated: SOME, run: unplug::three_ids },
+    Group { name: "unplug: random states in order", entry: Entry::Unplug, emulated: SOME, run: unplug::in_order },
+    Group { name: "unplug: random states with ids of two roles, faults, idle boxes, id 0", entry: Entry::Unplug, emulated: SOME, run: unplug::faulty },
+    Group { name: "unplug: random malformed states", entry: Entry::Unplug, emulated: SOME, run: unplug::malformed },
+    Group { name: "unplug: lengths, words that no field can hold", entry: Entry::Unplug, emulated: ALL, run: unplug::words },
+    Group { name: "vectors: every case of crates/vectors", entry: Entry::Vectors, emulated: ALL, run: vectors::vectors },
+    Group { name: "wrapper: dimecandle.rs on random states", entry: Entry::Wrapper, emulated: SOME, run: wrapper::wrapper },
+    Group { name: "scripts: the listing of document 01", entry: Entry::Replay, emulated: ALL, run: scripts::example },
+    Group { name: "scripts: every one of a few records over two ids", entry: Entry::Replay, emulated: ALL, run: scripts::every },
+    Group { name: "scripts: random over few ids", entry: Entry::Replay, emulated: ALL, run: scripts::few_ids },
+    Group { name: "scripts: random over more than 64 ids", entry: Entry::Replay, emulated: ALL, run: scripts::many_ids },
+    Group { name: "scripts: cut at every length", entry: Entry::Replay, emulated: ALL, run: scripts::cut },
+    Group { name: "scripts: damaged", entry: Entry::Replay, emulated: ALL, run: scripts::damaged },
+    Group { name: "scripts: 255 to 257 pending", entry: Entry::Replay, emulated: ALL, run: scripts::pending },
+    Group { name: "scripts: 65,535 to 65,537 bytes, the longest listings", entry: Entry::Replay, emulated: ALL, run: scripts::longest },
 ];

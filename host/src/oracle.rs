@@ -1,10 +1,18 @@
-//! The Rust's side: the words of a call as the text's values, and the text's answers as words. The calls themselves are in calls.rs.
+//! The Rust's side: the words of a call as the text's values, and the text's answers as words. The calls themselves are in oracle/calls.rs.
+//! Where the text was not found, no_oracle.rs stands in the place of this file.
 
+mod calls;
+mod idle;
+
+use crate::compare::Entries;
 use crate::model::{Entry, Model, Replayed};
 use crate::script::{listing, Line, Machine, Run};
 use crate::words::{self, Block, Change, Ids, CAPACITY};
 use raft::eraftpb::{ConfChangeSingle, ConfChangeType, ConfState};
 use raft::{bridge, Changer, Configuration, Error, MapChange, MapChangeType, Progress, ProgressState, ProgressTracker};
+
+/// Whether the text was found.
+pub const AT_HAND: bool = true;
 
 /// Keeps the tracker of the last state that it was asked about: many calls in turn have the same.
 #[derive(Default)]
@@ -13,13 +21,6 @@ pub struct Rust {
     /// the same state's with one more incoming voter, and that voter
     last_with_voter: Option<(u64, ProgressTracker)>,
     pub entries: Entries,
-}
-
-/// How many entries of accepted lists were looked at, in each of the two ways of idle.rs.
-#[derive(Default)]
-pub struct Entries {
-    pub plainly: u64,
-    pub repaired: u64,
 }
 
 impl Rust {

@@ -1,15 +1,17 @@
-//! The peak stack of each call and of a script: the entry is run on a thread whose stack was filled with a pattern, and what it wrote over
-//! is looked for. Of an emulated library the program around it does the same (emulated.c). Each has to keep within its bound.
+//! The peak stack of each call and of a script, of the x86-64 code: the entry is run on a thread whose stack was filled with a pattern, and
+//! what it wrote over is looked for. Of emulated code the program around it does the same (emulated.c). Each has to keep within its bound.
 //! `dimecandle_unplug` takes less than can be told apart here: unplug.c measures it.
 
 use crate::calls::CALLS;
 #[cfg(emulated)]
-use crate::emulated::peak;
+use crate::emulated::{peak, Emulated as Entries};
 use crate::generate;
 use crate::groups::scripts::{longest_listing, script};
 use crate::random::Random;
 use crate::run::CANNOT_RUN;
-use crate::subject::{say_missing, Linked, Subject, CALLS_LINKED, LISTING_LINKED};
+#[cfg(not(emulated))]
+use crate::subject::Linked as Entries;
+use crate::subject::{say_missing, Subject, CALLS_AT_HAND, EMULATED, EMULATED_CODE, LISTING_AT_HAND, STATIC_CODE};
 use crate::words::{Block, Request, CAPACITY, REPLY_BYTES};
 use std::process::ExitCode;
 
@@ -20,10 +22,11 @@ const BOUND: usize = 128 << 10;
 const MARGIN: usize = 2 << 10;
 
 pub fn run() -> ExitCode {
-    if !CALLS_LINKED || !LISTING_LINKED {
+    if !CALLS_AT_HAND || !LISTING_AT_HAND {
         say_missing("its stack cannot be measured");
         return ExitCode::from(CANNOT_RUN);
     }
+    println!("{}", if EMULATED { EMULATED_CODE } else { STATIC_CODE });
     let calls = CALLS.iter().map(|call| (format!("dimecandle_call, {}", call.name), peak_of_call(call.number)));
     let replay = ("dimecandle_replay, the longest listing".to_string(), peak_of_replay());
     let peaks: Vec<(String, usize)> = calls.chain([replay]).collect();
@@ -44,7 +47,7 @@ fn peak_of_replay() -> usize {
     let bytes = script(&longest_listing());
     let mut out = vec![0; 16 << 20];
     peak(|| {
-        Linked.replay(&bytes, &mut out);
+        Entries.replay(&bytes, &mut out);
     })
 }
 
@@ -61,7 +64,7 @@ fn peak_of_call(number: u64) -> usize {
         request.state = make(&mut random, &ids);
         generate::arguments(&mut random, &CALLS[number as usize], &ids, &mut request);
         let call = || {
-            Linked.call(request.bytes(), &mut reply);
+            Entries.call(request.bytes(), &mut reply);
         };
         most = most.max(peak(call));
     }

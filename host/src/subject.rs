@@ -1,27 +1,51 @@
-//! What is compared with the Rust: the three C entries, two on bytes and one on words.
+//! What is compared with the Rust: the three C entries, two on bytes and one on words; and whose code they are.
 
+use crate::emulated::Emulated;
 use crate::model::Model;
 
 pub trait Subject {
-    /// `dimecandle_call` of the static library `calls`: docs/EMBEDDING.md.
+    /// `dimecandle_call` of the library `calls`: docs/EMBEDDING.md.
     fn call(&self, request: &[u8], reply: &mut [u8]) -> u64;
 
     /// `dimecandle_unplug` of the same library.
     fn unplug(&self, state: &[u64], id: u64, verdict: &mut [u64]) -> u64;
 
-    /// `dimecandle_replay` of the static library `listing`: document 01, "The replay script".
+    /// `dimecandle_replay` of the library `listing`: document 01, "The replay script".
     fn replay(&self, script: &[u8], out: &mut [u8]) -> u64;
 }
 
 /// The entries, under their C names.
 pub struct Linked;
 
-/// Which of the static libraries are behind these names. In the place of a missing one the model has the name.
-pub const CALLS_LINKED: bool = cfg!(libcalls);
-pub const LISTING_LINKED: bool = cfg!(liblisting);
+/// Which of the libraries are at hand. In the place of a missing one the model has the names of its entries.
+pub const CALLS_AT_HAND: bool = cfg!(libcalls);
+pub const LISTING_AT_HAND: bool = cfg!(liblisting);
 
-/// Whether those that are there are emulated: emulated.rs has the names then, and no library is part of this program.
+/// Whether the x86-64 code of those at hand is in programs for the emulator: this is not an x86-64.
 pub const EMULATED: bool = cfg!(emulated);
+
+/// Whether the entries' names then stand for native code. If not, they stand for these programs.
+pub const NATIVE: bool = cfg!(native);
+
+/// Whether the entries' names stand for emulated code.
+pub const LINKED_IS_EMULATED: bool = EMULATED && !NATIVE;
+
+pub const STATIC_CODE: &str = "x86-64 code of the static libraries";
+pub const EMULATED_CODE: &str = "x86-64 code, emulated";
+
+/// What the entries' names stand for, where the libraries are at hand.
+pub fn linked_code() -> String {
+    match (EMULATED, NATIVE) {
+        (false, _) => STATIC_CODE.to_string(),
+        (true, true) => format!("native code of the same LLVM module, {}", std::env::consts::ARCH),
+        (true, false) => EMULATED_CODE.to_string(),
+    }
+}
+
+/// The emulated code, where it is asked beside native code.
+pub fn beside() -> Option<&'static dyn Subject> {
+    NATIVE.then_some(&Emulated as &dyn Subject)
+}
 
 /// Why a library is not there; empty where it is.
 pub const CALLS_MISSING: &str = env!("CALLS_MISSING");
@@ -70,27 +94,36 @@ impl Subject for Model {
     }
 }
 
-/// The model under the entries' names, where a static library is not there.
-#[cfg(any(not(libcalls), not(liblisting)))]
-mod in_place {
-    use crate::model::Model;
+// ** The entries' names where no archive that has them is linked: of a library at hand they stand for the emulated programs, of a missing
+// one for the model.
+
+#[cfg(not(calls_linked))]
+mod calls_in_place {
+    use super::*;
     use std::slice;
 
-    #[cfg(not(libcalls))]
+    const CALLS: &dyn Subject = if CALLS_AT_HAND { &Emulated } else { &Model::PAPER };
+
     #[no_mangle]
     unsafe extern "C" fn dimecandle_call(request: *const u8, n: usize, reply: *mut u8, m: usize) -> u64 {
-        Model::PAPER.call(slice::from_raw_parts(request, n), slice::from_raw_parts_mut(reply, m))
+        CALLS.call(slice::from_raw_parts(request, n), slice::from_raw_parts_mut(reply, m))
     }
 
-    #[cfg(not(libcalls))]
     #[no_mangle]
     unsafe extern "C" fn dimecandle_unplug(state: *const u64, n: usize, id: u64, verdict: *mut u64, m: usize) -> u64 {
-        Model::PAPER.unplug(slice::from_raw_parts(state, n), id, slice::from_raw_parts_mut(verdict, m))
+        CALLS.unplug(slice::from_raw_parts(state, n), id, slice::from_raw_parts_mut(verdict, m))
     }
+}
 
-    #[cfg(not(liblisting))]
+#[cfg(not(listing_linked))]
+mod listing_in_place {
+    use super::*;
+    use std::slice;
+
+    const LISTING: &dyn Subject = if LISTING_AT_HAND { &Emulated } else { &Model::PAPER };
+
     #[no_mangle]
     unsafe extern "C" fn dimecandle_replay(script: *const u8, n: usize, out: *mut u8, m: usize) -> u64 {
-        Model::PAPER.replay(slice::from_raw_parts(script, n), slice::from_raw_parts_mut(out, m))
+        LISTING.replay(slice::from_raw_parts(script, n), slice::from_raw_parts_mut(out, m))
     }
 }

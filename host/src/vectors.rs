@@ -14,6 +14,7 @@ use crate::oracle::rust_listing;
 use crate::script::{LONGEST_SCRIPT, NO_ROOM, TOO_LONG};
 use crate::subject::{Linked, Subject};
 use crate::words::{Block, Request, REPLY_BYTES, REQUEST_BYTES};
+pub use format::cases;
 use format::{Case, Entry};
 use std::fs;
 use std::path::Path;
@@ -117,20 +118,30 @@ fn long_scripts() -> Vec<Case> {
 
 /// Replays the file as the program without Rust does, on what this program is linked with.
 fn check(file: &[u8]) -> ExitCode {
-    let cases = format::cases(file);
-    let failed: Vec<usize> = (1..).zip(&cases).filter(|(_, case)| !replays(case)).map(|(number, _)| number).collect();
-    for number in &failed {
-        println!("case {number} differs");
+    let cases = cases(file);
+    let mut failed = 0;
+    for (number, case) in (1..).zip(&cases) {
+        if let Err(what) = replayed(case, &Linked) {
+            println!("case {number} differs: {what}");
+            failed += 1;
+        }
     }
-    print!("{}", printed(&cases, failed.len()));
-    ExitCode::from(u8::from(!failed.is_empty()))
+    print!("{}", printed(&cases, failed));
+    ExitCode::from(u8::from(failed > 0))
 }
 
-fn replays(case: &Case) -> bool {
+/// Whether a subject answers a case as the file says, or how not.
+pub fn replayed(case: &Case, subject: &dyn Subject) -> Result<(), String> {
     let mut lent = vec![STALE; case.lent.len()];
     let value = match case.entry {
-        Entry::Call => Linked.call(&case.given, &mut lent),
-        Entry::Script => Linked.replay(&case.given, &mut lent),
+        Entry::Call => subject.call(&case.given, &mut lent),
+        Entry::Script => subject.replay(&case.given, &mut lent),
     };
-    value == case.value && lent == case.lent
+    if value != case.value {
+        return Err(format!("it returned {value} and not {}", case.value));
+    }
+    match lent.iter().zip(&case.lent).position(|(given, right)| given != right) {
+        None => Ok(()),
+        Some(place) => Err(format!("lent byte {place} is {}, not {}", lent[place], case.lent[place])),
+    }
 }

@@ -6,6 +6,7 @@ use crate::calls::CALLS;
 use crate::compare::{Against, Compared, Comparison, Difference, Failure, Input};
 use crate::generate;
 use crate::random::Random;
+use crate::subject::Subject;
 use crate::words::{Block, Request, CAPACITY, LIST_PLACES, LOG_PLACES, REPLY_BYTES, REQUEST_BYTES, STATE_WORDS};
 use std::mem::offset_of;
 
@@ -116,9 +117,8 @@ fn unused_places(comparison: &mut Comparison, random: &mut Random, size: Size) -
 fn returns(comparison: &mut Comparison, expected: u64, request: &[u8], reply_len: usize) -> Compared {
     let lent: Vec<u8> = (0..reply_len).map(|place| (place as u8).wrapping_mul(29) | 1).collect();
     let returned = Returned { expected, given: request, lent: &lent, answer: REPLY_BYTES };
-    let subject = comparison.subject;
     let input = || format!("a request of {} bytes, a reply of {reply_len}", request.len());
-    returned.compared(comparison, |request, reply| subject.call(request, reply), input)
+    returned.compared(comparison, |subject, request, reply| subject.call(request, reply), input)
 }
 
 /// What an entry has to return, and the bytes or words that it is given and lent; its answer is so many of these.
@@ -130,15 +130,23 @@ pub struct Returned<'a, T> {
 }
 
 impl<T: Copy + PartialEq> Returned<'_, T> {
-    /// Runs the entry, and looks at the value and at what was lent: what was given stays, and of the lent with a refusal all, with 0 what is
-    /// after the answer.
+    /// Runs the entry of each side.
     pub fn compared(
         self,
         comparison: &mut Comparison,
-        entry: impl FnOnce(&[T], &mut [T]) -> u64,
+        entry: impl Fn(&dyn Subject, &[T], &mut [T]) -> u64,
         input: impl FnOnce() -> String,
     ) -> Compared {
         comparison.inputs += 1;
+        let differs = |comparison: &mut Comparison| self.difference(|given, lent| entry(comparison.subject, given, lent));
+        match comparison.each_side(differs) {
+            None => Ok(()),
+            Some(difference) => Err(Box::new(Failure { input: Input::Other(input()), difference })),
+        }
+    }
+
+    /// Looks at the value and at what was lent: what was given stays, and of the lent with a refusal all, with 0 what is after the answer.
+    fn difference(&self, entry: impl FnOnce(&[T], &mut [T]) -> u64) -> Option<Difference> {
         let (given, mut lent) = (self.given.to_vec(), self.lent.to_vec());
         let returned = entry(&given, &mut lent);
         let kept = if self.expected == 0 { self.answer } else { 0 };
@@ -149,8 +157,8 @@ impl<T: Copy + PartialEq> Returned<'_, T> {
         } else if lent[kept..] != self.lent[kept..] {
             "what was lent was written".to_string()
         } else {
-            return Ok(());
+            return None;
         };
-        Err(Box::new(Failure { input: Input::Other(input()), difference: Difference { against: Against::Paper, what } }))
+        Some(Difference { against: Against::Paper, what })
     }
 }

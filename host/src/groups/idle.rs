@@ -1,12 +1,11 @@
 //! Entries that do nothing: document 02, b). Counts worked by hand from document 01's table, and the two ways in which the Rust's answers to
-//! a list's prefixes are asked for (src/idle.rs), beside each other.
+//! a list's prefixes are asked for (src/oracle/idle.rs), beside each other.
 
 use super::examples::{add, learner, remove};
 use super::states::{changes_of, each_state, lists_of, passes};
 use super::Size;
 use crate::calls::{ENTER_JOINT, SIMPLE};
 use crate::compare::{Against, Compared, Comparison, Difference, Failure, Input};
-use crate::idle::{count_repaired, ListCall};
 use crate::oracle::Rust;
 use crate::random::Random;
 use crate::show;
@@ -106,6 +105,8 @@ pub fn examples(comparison: &mut Comparison, _: &mut Random, _: Size) -> Compare
     Ok(())
 }
 
+pub const BOTH_WAYS: &str = "idle entries: the Rust's prefixes plainly and with repairs";
+
 /// Every state over two ids that passes the check, every short list: each entry judged with one more voter and repairs, also where the
 /// Rust accepts both prefixes as they are.
 pub fn both_ways(comparison: &mut Comparison, _: &mut Random, size: Size) -> Compared {
@@ -117,9 +118,9 @@ pub fn both_ways(comparison: &mut Comparison, _: &mut Random, size: Size) -> Com
         }
         for list in &lists {
             request.list.set(list);
-            for (number, call) in [(SIMPLE, ListCall::Simple), (ENTER_JOINT, ListCall::EnterJoint { auto_leave: false })] {
-                request.call = number;
-                judged_twice(comparison, &mut rust, request, call)?;
+            for call in [SIMPLE, ENTER_JOINT] {
+                request.call = call;
+                judged_twice(comparison, &mut rust, request)?;
             }
         }
         Ok(())
@@ -127,12 +128,12 @@ pub fn both_ways(comparison: &mut Comparison, _: &mut Random, size: Size) -> Com
 }
 
 /// Only a list that the Rust accepts is an input here.
-fn judged_twice(comparison: &mut Comparison, rust: &mut Rust, request: &Request, call: ListCall) -> Compared {
+fn judged_twice(comparison: &mut Comparison, rust: &mut Rust, request: &Request) -> Compared {
     let Some(reply) = comparison.expected(request).1.filter(|reply| reply.number == 0) else { return Ok(()) };
     let plainly = reply.idle;
     (comparison.inputs, comparison.with_rust) = (comparison.inputs + 1, comparison.with_rust + 1);
     comparison.accepted += 1;
-    let repaired = count_repaired(rust, &request.state, call, request.list.changes());
+    let repaired = rust.idle_with_repairs(request);
     agree(request, Against::Rust, idle(plainly), idle(repaired))
 }
 

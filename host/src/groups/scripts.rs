@@ -35,14 +35,17 @@ const EXAMPLE_LISTING: &str = "1 ok voters=(1) log=(+1)
 pub fn example(comparison: &mut Comparison, _: &mut Random, _: Size) -> Compared {
     let bytes = script(&EXAMPLE);
     comparison.script(&bytes)?;
-    let mut out = vec![0; EXAMPLE_LISTING.len()];
-    let length = comparison.subject.replay(&bytes, &mut out);
-    if length == out.len() as u64 && out == EXAMPLE_LISTING.as_bytes() {
-        return Ok(());
+    let printed = |comparison: &mut Comparison| {
+        let mut out = vec![0; EXAMPLE_LISTING.len()];
+        let length = comparison.subject.replay(&bytes, &mut out);
+        let what = || show::listings(&out, EXAMPLE_LISTING.as_bytes());
+        let right = length == out.len() as u64 && out == EXAMPLE_LISTING.as_bytes();
+        (!right).then(|| Difference { against: Against::Paper, what: what() })
+    };
+    match comparison.each_side(printed) {
+        None => Ok(()),
+        Some(difference) => Err(Box::new(Failure { input: Input::Other(show::script(&bytes)), difference })),
     }
-    let what = show::listings(&out, EXAMPLE_LISTING.as_bytes());
-    let difference = Difference { against: Against::Paper, what };
-    Err(Box::new(Failure { input: Input::Other(show::script(&bytes)), difference }))
 }
 
 // ** Every small one

@@ -80,10 +80,15 @@ pub fn changes_of(ids: &[u64]) -> Vec<Change> {
     ids.iter().flat_map(|&id| (0..3).map(move |kind| (id, kind))).collect()
 }
 
-/// Every call that takes a list, with each of these. A flag is turned from list to list; in a long run both are tried.
+/// Every call that takes a list, with each of these. The flag is turned at each call and, since the calls come in turn, once more from list
+/// to list, so that each call meets both; in a long run it meets both with each list. A quick one, which the fixed vectors are taken from,
+/// does without the turn between the lists.
 fn list_calls(comparison: &mut Comparison, request: &mut Request, lists: &[Vec<Change>], size: Size) -> Compared {
     for list in lists {
         request.list.set(list);
+        if size != Size::Quick {
+            request.auto_leave = 1 - request.auto_leave;
+        }
         for call in CALLS.iter().filter(|call| takes_list(call)) {
             request.call = call.number;
             for _ in 0..if call.takes == Takes::ListAndFlag { size.pick(1, 1, 2) } else { 1 } {

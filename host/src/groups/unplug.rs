@@ -168,7 +168,6 @@ fn any_words(comparison: &mut Comparison, random: &mut Random, size: Size) -> Co
 fn returns(comparison: &mut Comparison, expected: u64, state: &[u64], verdict_len: usize) -> Compared {
     let lent: Vec<u64> = (0..verdict_len as u64).map(|place| (1 << 40) + place).collect();
     let returned = Returned { expected, given: state, lent: &lent, answer: VERDICT_WORDS };
-    let subject = comparison.subject;
     let input = || format!("unplug of a state of {} words, a verdict of {verdict_len}", state.len());
-    returned.compared(comparison, |state, verdict| subject.unplug(state, 1, verdict), input)
+    returned.compared(comparison, |subject, state, verdict| subject.unplug(state, 1, verdict), input)
 }

@@ -28,6 +28,9 @@ pub fn wrapper(comparison: &mut Comparison, random: &mut Random, size: Size) -> 
         let call = numbered(random.pick(&WRAPPED)).expect("a call of the table");
         generate::arguments(random, call, &ids, &mut request);
         through(comparison, &request)?;
+        if random.one_in(8) {
+            where_the_check_fails(comparison, &tracker(&request.state))?;
+        }
         if random.one_in(4) {
             let id = generate::id_asked(random, &request.state);
             can_unplug(comparison, &request.state, id)?;
@@ -36,19 +39,34 @@ pub fn wrapper(comparison: &mut Comparison, random: &mut Random, size: Size) -> 
     Ok(())
 }
 
-/// What the wrapper says of one box beside the right verdict.
+/// What the wrapper says of one box beside the right verdict. Of the second side its entry is asked the same, without the wrapper.
 fn can_unplug(comparison: &mut Comparison, state: &words::State, id: u64) -> Compared {
     comparison.inputs += 1;
     let verdict = tracker(state).can_unplug(id).map_or_else(|refused| [refused.number, refused.id], |()| [0, 0]);
-    let input = || Input::Other(format!("through dimecandle.rs: {}", show::unplug(state, id)));
-    comparison.judge(state, id, verdict).map_err(|difference| Box::new(Failure { input: input(), difference }))
+    let right = comparison.right_verdict(state, id);
+    if let Some(difference) = right.difference(state, verdict) {
+        let input = Input::Other(format!("through dimecandle.rs: {}", show::unplug(state, id)));
+        return Err(Box::new(Failure { input, difference }));
+    }
+    match comparison.second_side(|second| second.verdict_difference(state, id, &right, false)) {
+        None => Ok(()),
+        Some(difference) => Err(Box::new(Failure { input: Input::Unplug(Box::new(*state), id), difference })),
+    }
 }
 
+/// The result of one call. Of the second side its entry is asked the same, without the wrapper.
 fn through(comparison: &mut Comparison, request: &Request) -> Compared {
     comparison.inputs += 1;
-    match difference(comparison, request) {
+    if let Some(difference) = difference(comparison, request) {
+        return Err(Box::new(Failure { input: Input::Wrapped(Box::new(*request)), difference }));
+    }
+    let of_entry = |second: &mut Comparison| {
+        let with_rust = second.expected(request).1.is_some();
+        second.reply_difference(request, with_rust)
+    };
+    match comparison.second_side(of_entry) {
         None => Ok(()),
-        Some(difference) => Err(Box::new(Failure { input: Input::Wrapped(Box::new(*request)), difference })),
+        Some(difference) => Err(Box::new(Failure { input: Input::Call(Box::new(*request)), difference })),
     }
 }
 
@@ -256,6 +274,32 @@ fn beyond_the_limits(comparison: &mut Comparison) -> Compared {
 type Restore = fn(&mut Tracker, u64, &ConfState) -> Result<(), Refused>;
 
 const RESTORES: [(&str, Restore); 2] = [("restore", Tracker::restore), ("restore_step_by_step", Tracker::restore_step_by_step)];
+
+/// What dimecandle.rs says of `check`: which calls are refused where it is, and which are not.
+fn where_the_check_fails(comparison: &mut Comparison, tracker: &Tracker) -> Compared {
+    if tracker.check().is_ok() {
+        return Ok(());
+    }
+    let one_voter = ConfState { voters: vec![1], ..ConfState::default() };
+    let mut refused = vec![
+        ("simple", tracker.simple(&[]).is_err()),
+        ("enter_joint", tracker.enter_joint(true, &[]).is_err()),
+        ("leave_joint", tracker.leave_joint().is_err()),
+        ("can_unplug", tracker.can_unplug(1).is_err()),
+        ("in_order", !tracker.in_order()),
+    ];
+    refused.extend(RESTORES.map(|(name, restore)| (name, restore(&mut tracker.clone(), 1, &one_voter).is_err())));
+    let mut accepted = vec![
+        ("apply_conf", tracker.clone().apply_conf(Configuration::default(), vec![], 1).is_ok()),
+        ("to_conf_state", tracker.to_conf_state().is_ok()),
+    ];
+    accepted.extend(RESTORES.map(|(name, restore)| (name, restore(&mut tracker.clone(), 1, &ConfState::default()).is_ok())));
+    for (name, right) in refused.into_iter().chain(accepted) {
+        let told = if right { Ok(()) } else { Err(Refused { number: 1, id: 0 }) };
+        expect(comparison, &format!("{name} where the check fails: {tracker:?}"), 0, told)?;
+    }
+    Ok(())
+}
 
 /// Refused where the two differ.
 fn same(one: &Tracker, other: &Tracker) -> Result<(), Refused> {

@@ -5,6 +5,8 @@ use super::{Model, Wrong};
 use crate::words::{self, CAPACITY};
 use std::collections::BTreeMap;
 
+/// The names are the paper's.
+#[allow(clippy::enum_variant_names)]
 #[derive(Clone, Copy, PartialEq, Eq)]
 pub enum Kind {
     AddNode,
@@ -537,7 +539,7 @@ impl Model {
     }
 
     /// "`to_conf_state`: four ascending lists"
-    pub fn to_conf_state(&self, conf: &Conf) -> ConfState {
+    pub fn to_conf_state(self, conf: &Conf) -> ConfState {
         let list = |set: &Set| set.iter().copied().collect();
         ConfState {
             voters: list(&conf.incoming),

@@ -13,7 +13,6 @@
 //!
 //! Without the text this crate is empty, and the program says so.
 #![cfg(rust_text)]
-#![allow(dead_code, mismatched_lifetime_syntaxes)]
 
 // `crate::..` and `raft_proto::..` of the text
 extern crate self as raft_proto;

@@ -61,10 +61,13 @@ struct Recorder {
     chosen: RefCell<Chosen>,
 }
 
+/// How many calls of a kind were seen, and those of them that were kept.
+type Kept = (usize, Vec<Box<Request>>);
+
 struct Chosen {
     random: Random,
-    /// by call and number: how many were seen, and those that were kept
-    calls: BTreeMap<(u64, u64), (usize, Vec<Box<Request>>)>,
+    /// by call and number
+    calls: BTreeMap<(u64, u64), Kept>,
     seen_scripts: usize,
     /// the last one, which is handed on with several outputs
     seen_last: Vec<u8>,

@@ -1,4 +1,5 @@
 //! Stand-in for src/quorum/joint.rs: two sets of voters, with what the text asks of them.
+#![warn(clippy::all)]
 
 use super::{AckedIndexer, VoteResult};
 use crate::{HashSet, MajorityConfig};

@@ -1,4 +1,5 @@
 //! Stand-in for src/quorum/majority.rs: a set of voters, with what the text asks of it.
+#![warn(clippy::all)]
 
 use super::{AckedIndexer, VoteResult};
 use crate::{DefaultHashBuilder, HashSet};

@@ -8,7 +8,7 @@
 //! the same tail after both, which makes every id but the entry's own an incoming voter again if it was one, and else no longer. Neither
 //! touches the entry's id or the difference of the two logs' lengths.
 
-use crate::oracle::{self, Rust};
+use super::Rust;
 use crate::words::{Change, State};
 use raft::eraftpb::{ConfChangeSingle, ConfChangeType};
 use raft::{Changer, Configuration, MapChange, MapChangeType, ProgressTracker};
@@ -49,7 +49,7 @@ pub fn count(rust: &mut Rust, state: &State, call: ListCall, list: &[ConfChangeS
 
 /// The same, each entry judged with one more voter and repairs.
 pub fn count_repaired(rust: &mut Rust, state: &State, call: ListCall, list: impl Iterator<Item = Change>) -> u64 {
-    let list = oracle::changes(list);
+    let list = super::changes(list);
     let tracker = rust.tracker_with_voter(state, &list);
     (0..list.len()).filter(|&place| repaired(tracker, call, &list, place)).count() as u64
 }
