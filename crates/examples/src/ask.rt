@@ -27,15 +27,20 @@ pub(crate) fn enter<'a>(asked: &[u8], t: Tracker, ids: &'a [u64], kinds: &'a [u8
 
 // `enter_joint` with a list that says itself what is asked.
 pub(crate) fn enter_list(asked: &[u8], t: Tracker, list: Changes) -> Tracker {
-    let n = list.len;
-    let ids = list.ids;
-    let kinds = list.kinds;
     say::words(asked);
     answered::say_changes(list);
+    enter_first(t, &list.ids, &list.kinds, list.len)
+}
+
+// `enter_joint` with the first `n` of these.
+fn enter_first<'a>(t: Tracker, ids: &'a [u64], kinds: &'a [u8], n: usize) -> Tracker {
     if ids.len() < n {
         return t;
     }
-    told(b": ", t, enter_joint(t, false, &ids[..n], &kinds[..n]))
+    if kinds.len() < n {
+        return t;
+    }
+    enter(b": ", t, &ids[..n], &kinds[..n])
 }
 
 // `leave_joint`.

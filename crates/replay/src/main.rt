@@ -2,18 +2,14 @@
 // those of crate listing.
 use libc::STDIN_FILENO;
 use libc::STDOUT_FILENO;
-ghost use Prim.Native.Nat.{_≤_};
-ghost use lib.ListN.{length};
 
-// A block has room for the longest line wherever it is written out (`line-size`, crates/listing/proofs).
+// A block of lines. It is written out where it may have no room for a line more: no line is longer than 11,520 bytes (`line-size`, crates/listing/proofs).
 const BLOCK: usize = 32768;
 
-const LINE: usize = 11520;
+const FULL: usize = BLOCK - 11520;
 
 // The lines of the records one after the other, as far as they can be written.
-fn list(script: &[u8])
-    requires { ⌜ length (now script) ≤ 65536 ⌝ }
-{
+fn list(script: &[u8]) {
     let mut block = [0u8; BLOCK];
     let mut n = 0;
     let mut z = listing::begin();
@@ -29,7 +25,7 @@ fn list(script: &[u8])
         let t = listing::turn(&mut block, n, z, kind, listing::number_at(script, at + 1));
         n = t.at;
         z = t.session;
-        if BLOCK - LINE < n {
+        if FULL < n {
             if !show(&block, n) {
                 return;
             }

@@ -1,16 +1,16 @@
 -- `replay::list` reads whole records only. Assumes nothing.
 use Prim.Native.Nat.{_+_, _*_, _≤_}
+use mathlib.Core.Path.{_≡_}
 use lib.ListN.{length}
 use borrow.Author.Needs.{needs}
-use native.Mathlib.Omega.{arith}
 use Rattle.replay.proofs.list.Statement.{statement}
 use Rattle.replay.proofs.list.Tie as tie
 
 abbrev Inv-loop : tie.InvT-loop
-Inv-loop script z₀ at₀ left₀ z at left = at + 9 * left ≤ length script
+Inv-loop script block₀ n₀ z₀ at₀ left₀ block n z at left = (at + 9 * left ≤ length script) × (length block ≡ 32768)
 
 abbrev μ-loop : tie.MeasureT-loop
-μ-loop script z₀ at₀ left₀ z at left = left
+μ-loop script block₀ n₀ z₀ at₀ left₀ block n z at left = left
 
 begin-requires : tie.Need-begin-requires Inv-loop μ-loop
 begin-requires c κs = search needs
@@ -57,6 +57,9 @@ slice-aggregate-show-2 c = search needs
 show-requires-2 : tie.Need-show-requires-2 Inv-loop μ-loop
 show-requires-2 c κs = search needs
 
+returns-2 : tie.Need-returns-2 Inv-loop μ-loop
+returns-2 c = search needs
+
 add-at : tie.Need-add-at Inv-loop μ-loop
 add-at c = search needs
 
@@ -81,8 +84,8 @@ slice-aggregate-show-3 c = search needs
 show-requires-3 : tie.Need-show-requires-3 Inv-loop μ-loop
 show-requires-3 c κs = search needs
 
-returns-2 : tie.Need-returns-2 Inv-loop μ-loop
-returns-2 c = search needs
+returns-3 : tie.Need-returns-3 Inv-loop μ-loop
+returns-3 c = search needs
 
 pub list-spec : {M : Type 1} → statement M
 list-spec =
@@ -105,6 +108,7 @@ list-spec =
     turn-requires
     slice-aggregate-show-2
     show-requires-2
+    returns-2
     add-at
     sub-left
     loop-less
@@ -113,4 +117,4 @@ list-spec =
     put-ending-requires
     slice-aggregate-show-3
     show-requires-3
-    returns-2)
+    returns-3)
