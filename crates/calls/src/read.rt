@@ -54,7 +54,7 @@ pub fn holds(s: &[u8]) -> bool
     if !at_most(s, 1752, 1, 1, 1) {
         return false;
     }
-    if !at_most(s, 1754, 256, 2, 1) {
+    if !at_most(s, 1754, ChangeLog::CAPACITY, 2, 1) {
         return false;
     }
     at_most(s, 2526, 1, 1, 1)
@@ -177,13 +177,13 @@ fn state_holds(s: &[u8], k: usize) -> bool
         return false;
     }
     let records = k + 326;
-    if !at_most(s, records + 2, 64, 10, 2) {
+    if !at_most(s, records + 2, Tracker::CAPACITY, 10, 2) {
         return false;
     }
-    if !at_most(s, records + 3, 64, 10, 1) {
+    if !at_most(s, records + 3, Tracker::CAPACITY, 10, 1) {
         return false;
     }
-    at_most(s, records + 6, 64, 10, 1)
+    at_most(s, records + 6, Tracker::CAPACITY, 10, 1)
 }
 
 // Both counts, and each kind.
@@ -226,7 +226,7 @@ fn set_at(s: &[u8], k: usize) -> IdSet
     let ids = words_at(s, k);
     IdSet {
         ids,
-        len: word(s, k + 64) as usize,
+        len: word(s, k + IdSet::CAPACITY) as usize,
     }
 }
 
@@ -238,7 +238,7 @@ fn list_at(s: &[u8], k: usize) -> IdList
     let ids = words_at(s, k);
     IdList {
         ids,
-        len: word(s, k + 64) as usize,
+        len: word(s, k + IdSet::CAPACITY) as usize,
     }
 }
 

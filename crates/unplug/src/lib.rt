@@ -1,6 +1,8 @@
 // Can this box be unplugged? Document 02, d): number and id of `simple` with the removal of one box, of any state, without the call. The state is lent
 // as the words of a STATE (docs/EMBEDDING.md) and read where they stand: no copy of it, no log and no configuration is made. The sets are at the words
 // 0 incoming, 65 outgoing, 130 learners, 195 learners_next and 261 tracked; each has 64 ids and then its count.
+use idset::IdSet;
+use tracker::Tracker;
 use tracker::Verdict;
 use tracker::numbers;
 ghost use mathlib.Core.Path.{_≡_};
@@ -94,13 +96,13 @@ fn holds(s: &[u64]) -> bool
     if !at_most(s, 260, 1, 1, 1) {
         return false;
     }
-    if !at_most(s, 328, 64, 10, 2) {
+    if !at_most(s, 328, Tracker::CAPACITY, 10, 2) {
         return false;
     }
-    if !at_most(s, 329, 64, 10, 1) {
+    if !at_most(s, 329, Tracker::CAPACITY, 10, 1) {
         return false;
     }
-    at_most(s, 332, 64, 10, 1)
+    at_most(s, 332, Tracker::CAPACITY, 10, 1)
 }
 
 // Whether `n` words from `k` on, `step` apart, are at most `most`.
@@ -149,7 +151,10 @@ fn malformed_at(s: &[u64], k: usize) -> bool
     requires { ⌜ k + 64 ≤ length (now s) ⌝ }
     ensures { λ r. ⌜ r ≡ not (wellFormed (setBy (wordIn (now (s .entry))) k)) ⌝ }
 {
-    idset::malformed_in(&s[k..k + 64], word(s, k + 64) as usize)
+    idset::malformed_in(
+        &s[k..k + IdSet::CAPACITY],
+        word(s, k + IdSet::CAPACITY) as usize,
+    )
 }
 
 // The check.
