@@ -1,5 +1,6 @@
-// What a program reads and writes: an input to its end, an output in full. What the system refuses is said on standard error, in the system's own words. No
-// contract can say what is read or written: the work of a program is in functions on slices.
+// internal: for the programs of this repository. What a program reads and writes: an input to its end, an output in full. What the system refuses is said
+// on standard error, in the system's own words. No contract can say what is read or written, so there is none that settles it: the work of a program is in
+// functions on slices.
 ghost use mathlib.Core.Path.{_≡_};
 ghost use Prim.Native.Nat.{_+_, _≤_};
 ghost use lib.ListN.{length};
