@@ -22,3 +22,6 @@ pub mod Faults
 pub mod IdleExamples
 pub mod UnplugExamples
 pub mod QuorumExamples
+pub mod Wire
+pub mod Message
+pub mod MessageExamples
