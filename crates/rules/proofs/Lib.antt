@@ -24,4 +24,5 @@ pub mod Singles
 pub mod Unplug
 pub mod RoundTrip
 pub mod Empty
+pub mod Wire
 pub mod Theorems
