@@ -126,11 +126,14 @@ module _ {l : List ℕ} {value unit i : ℕ} (r : Reading l value unit i) where
       let k : 128 ^ i ≤ 128 ^ 8 = pow-le-pow-right (omega arith) e in
       omega (arith, r .scale, k)
 
-  pub sum-small : (b : ℕ) → i < 9 → b < 128 → value + unit * b < 2 ^ 63
-  sum-small b h k =
+  pub sum-small : {b : ℕ} → i < 9 → b < 128 → value + unit * b < 2 ^ 63
+  sum-small {b} h k =
       let u : unit ≤ 2 ^ 56 = unit-small h in
       let m : unit * b ≤ 2 ^ 56 * b = mul-le-mul-right b u in
       omega (arith, r .small)
+
+  pub sum-more : {b : ℕ} → i < 9 → 128 ≤ b → b < 256 → value + unit * (b - 128) < 2 ^ 63
+  sum-more {b} h k n = sum-small {b = b - 128} h (omega arith)
 
   unit-nine : 9 ≤ i → unit ≡ 2 ^ 63
   unit-nine h =
@@ -152,7 +155,7 @@ module _ {l : List ℕ} {value unit i : ℕ} (r : Reading l value unit i) where
     unfolding varintAt
     read-value k =
         let f : front l ≡ num (value + unit * getD l i 0) (i + 1) = r .same ∙ rw (front-last l i h k) in
-        rw (f, fits-yes (value + unit * getD l i 0) (i + 1) (omega arith) (omega (arith, sum-small (getD l i 0) n k)), zero-add)
+        rw (f, fits-yes (value + unit * getD l i 0) (i + 1) (omega arith) (omega (arith, sum-small n k)), zero-add)
 
     pub read-next : 128 ≤ getD l i 0 → getD l i 0 < 256 → Reading l (value + unit * (getD l i 0 - 128)) (unit * 128) (i + 1)
     read-next k s =

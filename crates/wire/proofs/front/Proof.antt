@@ -1,7 +1,7 @@
 use borrow.Author.Needs.{needs}
 use native.Mathlib.Omega.{arith}
 use Prim.Native.Nat.{_-_}
-use Rattle.wire.proofs.Reading.{Reading, read-start, read-cut, read-value, read-next, unit-small, sum-small, nine-within, nine-then}
+use Rattle.wire.proofs.Reading.{Reading, read-start, read-cut, read-value, read-next, unit-small, sum-small, sum-more, nine-within, nine-then}
 use Rattle.wire.proofs.front.Statement.{statement}
 use Rattle.wire.proofs.front.Tie as tie
 use Rattle.wire.proofs.front.Reads as reads
@@ -28,15 +28,15 @@ shared-slice-read-b c = search needs
 
 -- src/lib.rt:82:17
 cast-b : tie.Need-cast-b Inv-loop μ-loop
-cast-b c = search needs
+cast-b c = omega (arith, c .shared-slice-known2 .given (c .before .before .before .loop .i))
 
 -- src/lib.rt:86:32
 mul-t10 : tie.Need-mul-t10 Inv-loop μ-loop
-mul-t10 c = search needs
+mul-t10 c = omega (arith, sum-small (c .before .before .before .before .loop .inv) (c .before .before .before .loop-test .taken) (c .if2 .taken))
 
 -- src/lib.rt:86:24
 add-t11 : tie.Need-add-t11 Inv-loop μ-loop
-add-t11 c = search needs
+add-t11 c = omega (arith, sum-small (c .before .before .before .before .loop .inv) (c .before .before .before .loop-test .taken) (c .if2 .taken))
 
 -- src/lib.rt:87:23
 add-t12 : tie.Need-add-t12 Inv-loop μ-loop
@@ -48,15 +48,15 @@ returns-2 c = search (needs, read-value)
 
 -- src/lib.rt:90:18
 mul-value : tie.Need-mul-value Inv-loop μ-loop
-mul-value c = search needs
+mul-value c = omega (arith, sum-more (c .before .before .before .before .loop .inv) (c .before .before .before .loop-test .taken) (c .if2 .left) (omega (arith, c .before .shared-slice-known2 .given (c .before .before .before .before .loop .i))))
 
 -- src/lib.rt:90:9
 add-value : tie.Need-add-value Inv-loop μ-loop
-add-value c = search needs
+add-value c = omega (arith, sum-more (c .before .before .before .before .loop .inv) (c .before .before .before .loop-test .taken) (c .if2 .left) (omega (arith, c .before .shared-slice-known2 .given (c .before .before .before .before .loop .i))))
 
 -- src/lib.rt:91:9
 mul-unit : tie.Need-mul-unit Inv-loop μ-loop
-mul-unit c = search needs
+mul-unit c = omega (arith, unit-small (c .before .before .before .before .loop .inv) (c .before .before .before .loop-test .taken))
 
 -- src/lib.rt:92:9
 add-i : tie.Need-add-i Inv-loop μ-loop
@@ -68,11 +68,11 @@ loop-less c = search needs
 
 -- src/lib.rt:74:5
 loop-again : tie.Need-loop-again Inv-loop μ-loop
-loop-again c = search (needs, read-next)
+loop-again c = read-next (c .before .before .before .before .loop .inv) (c .before .before .if1 .left) (c .before .before .before .loop-test .taken) (c .if2 .left) (omega (arith, c .before .shared-slice-known2 .given (c .before .before .before .before .loop .i)))
 
 -- src/lib.rt:94:5
 tenth-requires : tie.Need-tenth-requires Inv-loop μ-loop
-tenth-requires c κs = search (needs, nine-within)
+tenth-requires c κs = nine-within (c .before .loop .inv) (c .loop-test .left)
 
 -- src/lib.rt:68:1
 returns-3 : tie.Need-returns-3 Inv-loop μ-loop

@@ -1,4 +1,7 @@
+use Prim.Native.Nat.{ℕ}
 use borrow.Author.Needs.{needs}
+use native.Mathlib.Omega.{arith}
+use Rattle.wire.proofs.Reading.{read-on, next-within}
 use Rattle.wire.proofs.read_long.Statement.{statement}
 use Rattle.wire.proofs.read_long.Tie as tie
 use Rattle.wire.proofs.read_long.Reads as reads
@@ -23,11 +26,11 @@ front-requires c κs = search needs
 
 -- src/lib.rt:63:15
 add-t5 : tie.Need-add-t5
-add-t5 c = search needs
+add-t5 c = let x : ℕ = c .before .before .front-arg .given in ?
 
 -- src/lib.rt:55:1
 returns : tie.Need-returns
-returns c = search needs
+returns c = let x : ℕ = c .before .front .ensures in ?
 
 pub read-long-spec : {M : Type 1} → statement M
 read-long-spec =
