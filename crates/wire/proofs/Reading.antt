@@ -9,7 +9,8 @@ use native.Mathlib.Numerals.{add-one}
 use native.Mathlib.Omega.{arith}
 use borrow.Author.Tests.{ltb-true, ltb-false}
 use lib.Dec.{ltb}
-use lib.ListN.{length, drop, getD, length-drop}
+use lib.ListN.{length, take, drop, getD, length-drop}
+use lib.Seq.{take-all}
 use Rattle.rules.specs.Wire.{Front, cut, num, more, front, fits}
 use Rattle.wire.specs.Varints.{placed, varintAt, after, tenthAt, past, endOf}
 use Rattle.wire.specs.declared.Varint.{Varint}
@@ -177,9 +178,16 @@ placed-on at (num v n) = by (fits v n)
     by true = rw zero-add
     by false = rw zero-add
 
-pub read-on : (l : List ℕ) (at : ℕ) {v : Varint} → v ≡ varintAt (drop at l) 0 → _≡_ {A = Varint} (record { fault = v .fault; value = v .value; next = at + v .next }) (varintAt l at)
+-- those bytes, as a slice has them
+abbrev pub from : List ℕ → ℕ → List ℕ
+from l at = take (length l - at) (drop at l)
+
+from-all : (l : List ℕ) (at : ℕ) → from l at ≡ drop at l
+from-all l at = take-all (length l - at) (drop at l) (omega (arith, length-drop at l))
+
+pub read-on : (l : List ℕ) (at : ℕ) {v : Varint} → v ≡ varintAt (from l at) 0 → _≡_ {A = Varint} (record { fault = v .fault; value = v .value; next = at + v .next }) (varintAt l at)
 unfolding varintAt
-read-on l at e = rw e (placed-on at (front (drop at l)))
+read-on l at e = rw (e, from-all l at) (placed-on at (front (drop at l)))
 
 placed-width : (f : Front) → placed 0 f .next ≡ width f
 placed-width cut = refl
@@ -189,9 +197,11 @@ placed-width (num v n) = by (fits v n)
     by true = omega arith
     by false = omega arith
 
-pub next-within : (l : List ℕ) {v : Varint} → v ≡ varintAt l 0 → v .next ≤ length l
+pub read-within : (l : List ℕ) (at : ℕ) {v : Varint} → at ≤ length l → v ≡ varintAt (from l at) 0 → at + v .next ≤ length l
 unfolding varintAt
-next-within l {v} e = omega (arith, ap (λ (w : Varint). w .next) e, placed-width (front l), width-within l)
+read-within l at {v} h e =
+    let d : from l at ≡ drop at l = from-all l at in
+    omega (arith, ap (λ (w : Varint). w .next) e, placed-width (front (from l at)), width-within (from l at), ap length d, length-drop at l)
 
 -- the short ways: no byte, one, one and no other, two
 pub short-none : (l : List ℕ) (at : ℕ) → length l ≤ at → cutAt at ≡ varintAt l at

@@ -1,7 +1,6 @@
-use Prim.Native.Nat.{ℕ}
 use borrow.Author.Needs.{needs}
 use native.Mathlib.Omega.{arith}
-use Rattle.wire.proofs.Reading.{read-on, next-within}
+use Rattle.wire.proofs.Reading.{read-on, read-within}
 use Rattle.wire.proofs.read_long.Statement.{statement}
 use Rattle.wire.proofs.read_long.Tie as tie
 use Rattle.wire.proofs.read_long.Reads as reads
@@ -26,11 +25,11 @@ front-requires c κs = search needs
 
 -- src/lib.rt:63:15
 add-t5 : tie.Need-add-t5
-add-t5 c = let x : ℕ = c .before .before .front-arg .given in ?
+add-t5 c = omega (arith, read-within (c .before .before .before .before .args .bytes .now) (c .before .before .before .before .args .at) (c .before .before .before .before .pre) (c .before .front .ensures))
 
 -- src/lib.rt:55:1
 returns : tie.Need-returns
-returns c = let x : ℕ = c .before .front .ensures in ?
+returns c = read-on (c .before .before .before .before .args .bytes .now) (c .before .before .before .before .args .at) (c .before .front .ensures)
 
 pub read-long-spec : {M : Type 1} → statement M
 read-long-spec =

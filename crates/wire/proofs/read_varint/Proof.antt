@@ -62,7 +62,9 @@ add-t15 c = search needs
 
 -- src/lib.rt:45:9
 returns-4 : tie.Need-returns-4
-returns-4 c = search (needs, short-two, c .before .before .before .before .shared-slice-known2 .given)
+returns-4 c =
+    short-two (c .before .before .before .before .before .before .before .args .bytes .now) (c .before .before .before .before .before .before .before .args .at) (c .before .before .before .before .before .if1 .left) (c .before .before .before .if2 .left)
+    (omega (arith, c .before .before .before .before .shared-slice-known2 .given (c .before .before .before .before .before .before .before .args .at))) (c .before .before .if3 .left) (c .if4 .taken)
 
 -- src/lib.rt:51:5
 read-long-requires : tie.Need-read-long-requires
