@@ -169,39 +169,33 @@ module _ {l : List ℕ} {value unit i : ℕ} (r : Reading l value unit i) where
           same = r .same ∙ rw (front-more l i h k) (lift-more value unit i (getD l i 0 - 128) (front (drop (i + 1) l)));
         }
 
--- what stands at `at`, read from the bytes from there on
+-- what stands at `at` ends within the bytes
+placed-next : (at : ℕ) (f : Front) → placed at f .next ≡ at + width f
+placed-next at cut = omega arith
+placed-next at (num v n) = by (fits v n)
+  where
+    by : (t : Bool) → cond t (valueAt v (at + n)) (overAt (at + n)) .next ≡ at + n
+    by true = refl
+    by false = refl
+
+pub next-within : (l : List ℕ) (at : ℕ) {v : Varint} → v ≡ varintAt l at → at ≤ length l → (at ≤ v .next) × (v .next ≤ length l)
+unfolding varintAt
+next-within l at {v} e h =
+    let k : v .next ≡ at + width (front (drop at l)) = ap (λ (w : Varint). w .next) e ∙ placed-next at (front (drop at l)) in
+    (omega arith, omega (arith, width-within (drop at l), length-drop at l))
+
+-- what stands at `at`, read from the part of the slice that begins there
 placed-on : (at : ℕ) (f : Front) → _≡_ {A = Varint} (record { fault = placed 0 f .fault; value = placed 0 f .value; next = at + placed 0 f .next }) (placed at f)
-placed-on at cut = rw (add-zero)
+placed-on at cut = rw add-zero
 placed-on at (num v n) = by (fits v n)
   where
     by : (t : Bool) → _≡_ {A = Varint} (record { fault = cond t (valueAt v (0 + n)) (overAt (0 + n)) .fault; value = cond t (valueAt v (0 + n)) (overAt (0 + n)) .value; next = at + cond t (valueAt v (0 + n)) (overAt (0 + n)) .next }) (cond t (valueAt v (at + n)) (overAt (at + n)))
     by true = rw zero-add
     by false = rw zero-add
 
--- those bytes, as a slice has them
-abbrev pub from : List ℕ → ℕ → List ℕ
-from l at = take (length l - at) (drop at l)
-
-from-all : (l : List ℕ) (at : ℕ) → from l at ≡ drop at l
-from-all l at = take-all (length l - at) (drop at l) (omega (arith, length-drop at l))
-
-pub read-on : (l : List ℕ) (at : ℕ) {v : Varint} → v ≡ varintAt (from l at) 0 → _≡_ {A = Varint} (record { fault = v .fault; value = v .value; next = at + v .next }) (varintAt l at)
+pub read-on : (l : List ℕ) (at : ℕ) {v : Varint} → v ≡ varintAt (take (length l - at) (drop at l)) 0 → _≡_ {A = Varint} (record { fault = v .fault; value = v .value; next = at + v .next }) (varintAt l at)
 unfolding varintAt
-read-on l at e = rw (e, from-all l at) (placed-on at (front (drop at l)))
-
-placed-width : (f : Front) → placed 0 f .next ≡ width f
-placed-width cut = refl
-placed-width (num v n) = by (fits v n)
-  where
-    by : (t : Bool) → cond t (valueAt v (0 + n)) (overAt (0 + n)) .next ≡ n
-    by true = omega arith
-    by false = omega arith
-
-pub read-within : (l : List ℕ) (at : ℕ) {v : Varint} → at ≤ length l → v ≡ varintAt (from l at) 0 → at + v .next ≤ length l
-unfolding varintAt
-read-within l at {v} h e =
-    let d : from l at ≡ drop at l = from-all l at in
-    omega (arith, ap (λ (w : Varint). w .next) e, placed-width (front (from l at)), width-within (from l at), ap length d, length-drop at l)
+read-on l at e = rw (e, take-all (length l - at) (drop at l) (omega (arith, length-drop at l))) (placed-on at (front (drop at l)))
 
 -- the short ways: no byte, one, one and no other, two
 pub short-none : (l : List ℕ) (at : ℕ) → length l ≤ at → cutAt at ≡ varintAt l at

@@ -1,8 +1,7 @@
 -- `wire::end_of` meets its contract: the end that is looked for is that of what stands at `p`. Assumes nothing.
-use borrow.Author.Needs.{needs}
-use native.Mathlib.Omega.{arith}
 use Prim.Native.Nat.{_-_}
 use lib.ListN.{length}
+use borrow.Author.Needs.{needs}
 use Rattle.wire.proofs.Reading.{Seeking, seek-start, seek-found, seek-next, seek-none}
 use Rattle.wire.proofs.end_of.Statement.{statement}
 use Rattle.wire.proofs.end_of.Tie as tie

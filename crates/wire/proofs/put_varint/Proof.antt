@@ -1,6 +1,6 @@
 -- `wire::put_varint` meets its contract: `m` is what is left of the number, from `p` on. Assumes nothing.
-use borrow.Author.Needs.{needs}
 use native.Mathlib.Omega.{arith}
+use borrow.Author.Needs.{needs}
 use Rattle.wire.proofs.Putting.{Putting, putting-start, putting-length, putting-room, putting-next, putting-last}
 use Rattle.wire.proofs.put_varint.Statement.{statement}
 use Rattle.wire.proofs.put_varint.Tie as tie

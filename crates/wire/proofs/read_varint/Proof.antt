@@ -1,76 +1,58 @@
+-- `wire::read_varint` meets its contract: the two short ways, then the long one. Assumes nothing.
 use Prim.Native.Nat.{_+_}
-use borrow.Author.Needs.{needs}
 use native.Mathlib.Omega.{arith}
+use borrow.Author.Needs.{needs}
 use Rattle.wire.proofs.Reading.{short-none, short-one, short-cut, short-two}
 use Rattle.wire.proofs.read_varint.Statement.{statement}
 use Rattle.wire.proofs.read_varint.Tie as tie
-use Rattle.wire.proofs.read_varint.Reads as reads
-use Rattle.wire.proofs.read_varint.Lts as lts
-use Rattle.wire.proofs.read_long.Reads as read-long-reads
 
--- src/lib.rt:22:9
 returns : tie.Need-returns
 returns c = search (needs, short-none)
 
--- src/lib.rt:28:13
 shared-slice-read-b : tie.Need-shared-slice-read-b
 shared-slice-read-b c = search needs
 
--- src/lib.rt:28:13
 cast-b : tie.Need-cast-b
 cast-b c = omega (arith, c .shared-slice-known2 .given (c .before .before .before .args .at))
 
--- src/lib.rt:33:19
 add-t9 : tie.Need-add-t9
 add-t9 c = search needs
 
--- src/lib.rt:30:9
 returns-2 : tie.Need-returns-2
 returns-2 c = search (needs, short-one)
 
--- src/lib.rt:36:8
 sub-if3 : tie.Need-sub-if3
 sub-if3 c = search needs
 
--- src/lib.rt:37:9
 returns-3 : tie.Need-returns-3
 returns-3 c = search (needs, short-cut)
 
--- src/lib.rt:43:19
 add-c : tie.Need-add-c
 add-c c = search needs
 
--- src/lib.rt:43:13
 shared-slice-read-c : tie.Need-shared-slice-read-c
 shared-slice-read-c c = search needs
 
--- src/lib.rt:43:13
 cast-c : tie.Need-cast-c
 cast-c c = omega (arith, c .shared-slice-known3 .given (c .before .before .before .before .before .before .args .at + 1))
 
--- src/lib.rt:47:30
 mul-t13 : tie.Need-mul-t13
 mul-t13 c = search needs
 
--- src/lib.rt:47:20
 add-t14 : tie.Need-add-t14
 add-t14 c = omega (arith, c .before .before .before .before .shared-slice-known2 .given (c .before .before .before .before .before .before .before .args .at))
 
--- src/lib.rt:48:19
 add-t15 : tie.Need-add-t15
 add-t15 c = search needs
 
--- src/lib.rt:45:9
 returns-4 : tie.Need-returns-4
 returns-4 c =
     short-two (c .before .before .before .before .before .before .before .args .bytes .now) (c .before .before .before .before .before .before .before .args .at) (c .before .before .before .before .before .if1 .left) (c .before .before .before .if2 .left)
     (omega (arith, c .before .before .before .before .shared-slice-known2 .given (c .before .before .before .before .before .before .before .args .at))) (c .before .before .if3 .left) (c .if4 .taken)
 
--- src/lib.rt:51:5
 read-long-requires : tie.Need-read-long-requires
 read-long-requires c κs = search needs
 
--- src/lib.rt:18:1
 returns-5 : tie.Need-returns-5
 returns-5 c = search needs
 

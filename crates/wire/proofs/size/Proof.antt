@@ -1,6 +1,6 @@
 -- `wire::size` meets its contract: `m` is what is left of the number. Assumes nothing.
-use borrow.Author.Needs.{needs}
 use native.Mathlib.Omega.{arith}
+use borrow.Author.Needs.{needs}
 use Rattle.wire.proofs.Putting.{Counting, count-start, count-few, count-next, count-end}
 use Rattle.wire.proofs.size.Statement.{statement}
 use Rattle.wire.proofs.size.Tie as tie

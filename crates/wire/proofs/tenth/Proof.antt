@@ -1,45 +1,34 @@
-use borrow.Author.Needs.{needs}
+-- `wire::tenth` meets its contract. Assumes nothing.
 use native.Mathlib.Omega.{arith}
+use borrow.Author.Needs.{needs}
 use Rattle.wire.proofs.Reading.{tenth-none, tenth-value, tenth-cut, tenth-over}
 use Rattle.wire.proofs.tenth.Statement.{statement}
 use Rattle.wire.proofs.tenth.Tie as tie
-use Rattle.wire.proofs.tenth.Reads as reads
-use Rattle.wire.proofs.tenth.Lts as lts
-use Rattle.wire.proofs.end_of.Reads as end-of-reads
 
--- src/lib.rt:103:9
 returns : tie.Need-returns
 returns c = search (needs, tenth-none)
 
--- src/lib.rt:109:13
 shared-slice-read-b : tie.Need-shared-slice-read-b
 shared-slice-read-b c = search needs
 
--- src/lib.rt:109:13
 cast-b : tie.Need-cast-b
 cast-b c = omega (arith, c .shared-slice-known2 .given 9)
 
--- src/lib.rt:113:28
 mul-t9 : tie.Need-mul-t9
 mul-t9 c = search needs
 
--- src/lib.rt:113:20
 add-t10 : tie.Need-add-t10
 add-t10 c = search needs
 
--- src/lib.rt:111:9
 returns-2 : tie.Need-returns-2
 returns-2 c = search (needs, tenth-value, c .before .before .before .before .pre)
 
--- src/lib.rt:117:9
 end-of-requires : tie.Need-end-of-requires
 end-of-requires c κs = search needs
 
--- src/lib.rt:119:9
 returns-3 : tie.Need-returns-3
 returns-3 c = search (needs, tenth-cut)
 
--- src/lib.rt:98:1
 returns-4 : tie.Need-returns-4
 returns-4 c = search (needs, tenth-over)
 
