@@ -1,0 +1,124 @@
+-- Laws of the bytes of a number: how many they are, and the loops that count them and put them into a slice. Assumes nothing.
+use Prim.Native.Nat.{ℕ, zero, suc, _+_, _-_, _*_, _/_, _%_, _^_, _≤_, _<_}
+use mathlib.Core.Path.{_≡_, refl, ap, sym, _∙_}
+use mathlib.Core.Bool.{Bool, true, false, cond}
+use mathlib.Core.List.{List, [], _∷_}
+use native.Mathlib.Nat.{pow-suc, div-lt-iff-lt-mul}
+use native.Mathlib.Numerals.{add-one}
+use native.Mathlib.Omega.{arith}
+use borrow.Author.Tests.{lt-ltb, le-ltb}
+use lib.Dec.{ltb}
+use lib.ListN.{length, set}
+use lib.Seq.{sets, length-sets}
+use Rattle.text.specs.Put.{Put, last}
+use Rattle.rules.specs.Wire.{groups, varintOf}
+
+-- the bytes of a number, by the first
+groups-one : (k n : ℕ) → n < 128 → groups (suc k) n ≡ n ∷ []
+unfolding groups
+groups-one k n h = rw (lt-ltb _ _ h)
+
+groups-more : (k n : ℕ) → 128 ≤ n → groups (suc k) n ≡ (128 + n % 128) ∷ groups k (n / 128)
+unfolding groups
+groups-more k n h = rw (le-ltb _ _ h)
+
+-- how many they are
+groups-some : (k n : ℕ) → 0 < length (groups (suc k) n)
+unfolding groups
+groups-some k n = by (ltb n 128)
+  where
+    by : (t : Bool) → 0 < length (cond t (n ∷ []) ((128 + n % 128) ∷ groups k (n / 128)))
+    by true = omega arith
+    by false = omega arith
+
+groups-few : (k n : ℕ) → length (groups k n) ≤ k
+unfolding groups
+groups-few zero n = omega arith
+groups-few (suc k) n = by (groups-few k (n / 128)) (ltb n 128)
+  where
+    by : length (groups k (n / 128)) ≤ k → (t : Bool) → length (cond t (n ∷ []) ((128 + n % 128) ∷ groups k (n / 128))) ≤ suc k
+    by r true = omega arith
+    by r false = omega arith
+
+pub varint-size : (n : ℕ) → (0 < length (varintOf n)) × (length (varintOf n) ≤ 10)
+unfolding varintOf
+varint-size n = (groups-some 9 n, groups-few 10 n)
+
+-- the bytes that a loop has still to come to, of a number m that is left
+pub record Left (m : ℕ) (bytes : List ℕ) : Type 0 where
+  pub fuel : ℕ
+  pub enough : m < 128 ^ suc fuel
+  pub those : bytes ≡ groups (suc fuel) m
+
+left-all : (n : ℕ) → n < 2 ^ 64 → Left n (varintOf n)
+unfolding varintOf
+left-all n h = record { fuel = 9; enough = omega arith; those = refl }
+
+left-some : {m : ℕ} {l : List ℕ} → Left m l → 0 < length l
+left-some {m} s = rw (s .those) (groups-some (s .fuel) m)
+
+left-one : {m : ℕ} {l : List ℕ} → Left m l → m < 128 → l ≡ m ∷ []
+left-one {m} s h = s .those ∙ groups-one (s .fuel) m h
+
+left-more : {m : ℕ} {l : List ℕ} → Left m l → 128 ≤ m → (r : List ℕ) × (Left (m / 128) r × (l ≡ (128 + m % 128) ∷ r))
+left-more {m} {l} s h = by (s .fuel) (s .enough) (s .those)
+  where
+    by : (k : ℕ) → m < 128 ^ suc k → l ≡ groups (suc k) m → (r : List ℕ) × (Left (m / 128) r × (l ≡ (128 + m % 128) ∷ r))
+    by zero e t = absurd (omega arith)
+    by (suc k) e t = (groups (suc k) (m / 128), (record { fuel = k; enough = div-lt-iff-lt-mul {k = 128} (omega arith) .1 (rw (← pow-suc) e); those = refl }, t ∙ groups-more (suc k) m h))
+
+-- the loop that counts the bytes of n has come to the k-th
+pub record Counting (n k m : ℕ) : Type 0 where
+  pub rest : List ℕ
+  pub left : Left m rest
+  pub count : k + length rest ≡ length (varintOf n) + 1
+
+pub count-start : {n : ℕ} → n < 2 ^ 64 → Counting n 1 n
+count-start {n} h = record { rest = varintOf n; left = left-all n h; count = omega arith }
+
+module _ {n k m : ℕ} (s : Counting n k m) where
+  pub count-few : k ≤ 10
+  count-few = omega (arith, s .count, left-some (s .left), varint-size n .1)
+
+  pub count-next : 128 ≤ m → Counting n (k + 1) (m / 128)
+  count-next h =
+      let t = left-more (s .left) h in
+      record { rest = t .0; left = t .1 .0; count = omega (arith, s .count, ap length (t .1 .1)) }
+
+  pub count-end : m < 128 → k ≡ length (varintOf n)
+  count-end h = omega (arith, s .count, ap length (left-one (s .left) h))
+
+-- the loop that puts the bytes of n has come to place p
+pub record Putting (old : List ℕ) (at n : ℕ) (out : List ℕ) (p m : ℕ) : Type 0 where
+  pub rest : List ℕ
+  pub left : Left m rest
+  pub bytes : sets out p rest ≡ sets old at (varintOf n)
+  pub end : p + length rest ≡ at + length (varintOf n)
+
+pub putting-start : {old : List ℕ} {at n : ℕ} → n < 2 ^ 64 → Putting old at n old at n
+putting-start {old} {at} {n} h = record { rest = varintOf n; left = left-all n h; bytes = refl; end = refl }
+
+module _ {old : List ℕ} {at n : ℕ} {out : List ℕ} {p m : ℕ} (s : Putting old at n out p m) where
+  pub putting-length : length out ≡ length old
+  putting-length = sym (length-sets out p (s .rest)) ∙ ap length (s .bytes) ∙ length-sets old at (varintOf n)
+
+  pub putting-room : at + length (varintOf n) ≤ length old → p < length out
+  putting-room h = omega (arith, s .end, left-some (s .left), putting-length)
+
+  pub putting-next : 128 ≤ m → Putting old at n (set out p (128 + m % 128)) (p + 1) (m / 128)
+  putting-next h =
+      let t = left-more (s .left) h in
+      record {
+        rest = t .0;
+        left = t .1 .0;
+        bytes = rw add-one (rw (t .1 .1) at (s .bytes));
+        end = omega (arith, s .end, ap length (t .1 .1));
+      }
+
+  pub putting-last : m < 128 → at + length (varintOf n) ≤ last → Put old at (varintOf n) (set out p m) (p + 1)
+  putting-last h k =
+      let e : s .rest ≡ m ∷ [] = left-one (s .left) h in
+      record {
+        bytes = rw e at (s .bytes);
+        end = omega (arith, s .end, ap length e);
+      }
