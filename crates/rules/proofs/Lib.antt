@@ -25,4 +25,5 @@ pub mod Unplug
 pub mod RoundTrip
 pub mod Empty
 pub mod Wire
+pub mod Refusals
 pub mod Theorems
