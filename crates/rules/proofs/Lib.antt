@@ -26,4 +26,5 @@ pub mod RoundTrip
 pub mod Empty
 pub mod Wire
 pub mod Refusals
+pub mod Packed
 pub mod Theorems
