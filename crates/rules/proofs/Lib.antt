@@ -27,4 +27,5 @@ pub mod Empty
 pub mod Wire
 pub mod Refusals
 pub mod Packed
+pub mod Lists64
 pub mod Theorems
