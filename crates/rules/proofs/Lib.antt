@@ -25,4 +25,7 @@ pub mod Unplug
 pub mod RoundTrip
 pub mod Empty
 pub mod Wire
+pub mod Refusals
+pub mod Packed
+pub mod Lists64
 pub mod Theorems
