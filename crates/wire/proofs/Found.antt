@@ -1,6 +1,6 @@
 -- What the struct of a reader says, in the rules' words: for the crates above. Assumes nothing.
 use Prim.Native.Nat.{ℕ, _+_, _≤_, _<_}
-use mathlib.Core.Path.{_≡_, refl, ap, sym, _∙_}
+use mathlib.Core.Path.{_≡_, refl, ap}
 use mathlib.Core.Bool.{Bool, true, false, cond}
 use mathlib.Core.List.{List}
 use native.Mathlib.Omega.{arith}
@@ -9,14 +9,14 @@ use Rattle.rules.specs.Wire.{Front, cut, num, front, fits, Found, bad, found, j
 use Rattle.wire.specs.Varints.{placed, varintAt}
 use Rattle.wire.specs.declared.Varint.{Varint}
 use Rattle.wire.proofs.Fronts.{front-within}
-use Rattle.wire.proofs.Reading.{valueAt, overAt}
+use Rattle.wire.proofs.Reading.{fitted}
 
 -- by what stands there: a fault, a number, one that does not fit
 placed-bad : (at : ℕ) (f : Front) → (placed at f .fault ≡ 0 → ⊥) → judged f ≡ bad (placed at f .fault)
 placed-bad at cut h = refl
 placed-bad at (num w n) h = by (fits w n) h
   where
-    by : (t : Bool) → (cond t (valueAt w (at + n)) (overAt (at + n)) .fault ≡ 0 → ⊥) → cond t (found w n) (bad 29) ≡ bad (cond t (valueAt w (at + n)) (overAt (at + n)) .fault)
+    by : (t : Bool) → (fitted t w (at + n) .fault ≡ 0 → ⊥) → cond t (found w n) (bad 29) ≡ bad (fitted t w (at + n) .fault)
     by true h = absurd (h refl)
     by false h = refl
 
@@ -24,8 +24,8 @@ placed-found : (at : ℕ) (f : Front) → placed at f .fault ≡ 0 → (n : ℕ)
 placed-found at cut e = absurd (omega arith)
 placed-found at (num w n) e = by (fits w n) e
   where
-    by : (t : Bool) → cond t (valueAt w (at + n)) (overAt (at + n)) .fault ≡ 0
-        → (k : ℕ) × ((cond t (valueAt w (at + n)) (overAt (at + n)) .next ≡ at + k) × (cond t (found w n) (bad 29) ≡ found (cond t (valueAt w (at + n)) (overAt (at + n)) .value) k))
+    by : (t : Bool) → fitted t w (at + n) .fault ≡ 0
+        → (k : ℕ) × ((fitted t w (at + n) .next ≡ at + k) × (cond t (found w n) (bad 29) ≡ found (fitted t w (at + n) .value) k))
     by true e = (n, (refl, refl))
     by false e = absurd (omega arith)
 
@@ -34,8 +34,8 @@ placed-over : (at : ℕ) (f : Front) → (placed at f .fault ≡ 0 → ⊥) → 
 placed-over at cut h k = absurd (k refl)
 placed-over at (num w n) h k = by (fits w n) refl h
   where
-    by : (t : Bool) → fits w n ≡ t → (cond t (valueAt w (at + n)) (overAt (at + n)) .fault ≡ 0 → ⊥)
-        → (v m : ℕ) × ((cond t (valueAt w (at + n)) (overAt (at + n)) .fault ≡ 29) × ((cond t (valueAt w (at + n)) (overAt (at + n)) .next ≡ at + m) × ((num w n ≡ num v m) × (fits v m ≡ false))))
+    by : (t : Bool) → fits w n ≡ t → (fitted t w (at + n) .fault ≡ 0 → ⊥)
+        → (v m : ℕ) × ((fitted t w (at + n) .fault ≡ 29) × ((fitted t w (at + n) .next ≡ at + m) × ((num w n ≡ num v m) × (fits v m ≡ false))))
     by true e h = absurd (h refl)
     by false e h = (w, n, (refl, (refl, (refl, e))))
 
@@ -44,7 +44,8 @@ pub read-bad : (l : List ℕ) (at : ℕ) {v : Varint} → v ≡ varintAt l at �
 unfolding varintAt varintIn
 read-bad l at e h = rw e (placed-bad at (front (drop at l)) (rw e at h))
 
-pub read-found : (l : List ℕ) (at : ℕ) {v : Varint} → v ≡ varintAt l at → v .fault ≡ 0 → (n : ℕ) × ((v .next ≡ at + n) × (varintIn (drop at l) ≡ found (v .value) n))
+pub read-found : (l : List ℕ) (at : ℕ) {v : Varint} → v ≡ varintAt l at → v .fault ≡ 0
+    → (n : ℕ) × ((v .next ≡ at + n) × (varintIn (drop at l) ≡ found (v .value) n))
 unfolding varintAt varintIn
 read-found l at e h = rw e (placed-found at (front (drop at l)) (rw e at h))
 

@@ -1,5 +1,5 @@
 -- Laws of what stands at the front of bytes: `front`, by its first byte; where it ends; whether it fits. Assumes nothing.
-use Prim.Native.Nat.{ℕ, zero, suc, _+_, _-_, _*_, _^_, _≤_, _<_}
+use Prim.Native.Nat.{ℕ, zero, suc, _+_, _-_, _^_, _≤_, _<_}
 use mathlib.Core.Path.{_≡_, refl, ap, sym, _∙_}
 use mathlib.Core.Bool.{Bool, true, false, cond, _&&_}
 use mathlib.Core.List.{List, [], _∷_}
@@ -35,7 +35,8 @@ unfolding front
 past-zero [] p e = refl
 past-zero (b ∷ bs) p e = go (past-zero bs (p + 1)) (ltb b 128) e
   where
-    go : (past (p + 1) (front bs) ≡ 0 → front bs ≡ cut) → (t : Bool) → past p (cond t (num b 1) (more (b - 128) (front bs))) ≡ 0 → cond t (num b 1) (more (b - 128) (front bs)) ≡ cut
+    go : (past (p + 1) (front bs) ≡ 0 → front bs ≡ cut) → (t : Bool) → past p (cond t (num b 1) (more (b - 128) (front bs))) ≡ 0
+        → cond t (num b 1) (more (b - 128) (front bs)) ≡ cut
     go r true e = absurd (omega (arith, e))
     go r false e = ap (more (b - 128)) (r (sym (past-more p (b - 128) (front bs)) ∙ e))
 

@@ -1,5 +1,5 @@
 -- Laws of the bytes of a number: how many they are, and the loops that count them and put them into a slice. Assumes nothing.
-use Prim.Native.Nat.{ℕ, zero, suc, _+_, _-_, _*_, _/_, _%_, _^_, _≤_, _<_}
+use Prim.Native.Nat.{ℕ, zero, suc, _+_, _/_, _%_, _^_, _≤_, _<_}
 use mathlib.Core.Path.{_≡_, refl, ap, sym, _∙_}
 use mathlib.Core.Bool.{Bool, true, false, cond}
 use mathlib.Core.List.{List, [], _∷_}
@@ -65,7 +65,9 @@ left-more {m} {l} s h = by (s .fuel) (s .enough) (s .those)
   where
     by : (k : ℕ) → m < 128 ^ suc k → l ≡ groups (suc k) m → (r : List ℕ) × (Left (m / 128) r × (l ≡ (128 + m % 128) ∷ r))
     by zero e t = absurd (omega arith)
-    by (suc k) e t = (groups (suc k) (m / 128), (record { fuel = k; enough = div-lt-iff-lt-mul {k = 128} (omega arith) .1 (rw (← pow-suc) e); those = refl }, t ∙ groups-more (suc k) m h))
+    by (suc k) e t =
+        let d : m / 128 < 128 ^ suc k = div-lt-iff-lt-mul {k = 128} (omega arith) .1 (rw (← pow-suc) e) in
+        (groups (suc k) (m / 128), (record { fuel = k; enough = d; those = refl }, t ∙ groups-more (suc k) m h))
 
 -- the loop that counts the bytes of n has come to the k-th
 pub record Counting (n k m : ℕ) : Type 0 where

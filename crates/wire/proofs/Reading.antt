@@ -1,9 +1,9 @@
 -- Laws of reading a varint from a slice: the loop that looks for its end, its tenth byte, the loop over the nine before, the two short ways.
 -- Assumes nothing.
-use Prim.Native.Nat.{ℕ, zero, suc, _+_, _-_, _*_, _^_, _≤_, _<_}
+use Prim.Native.Nat.{ℕ, suc, _+_, _-_, _*_, _^_, _≤_, _<_}
 use mathlib.Core.Path.{_≡_, refl, ap, sym, _∙_}
 use mathlib.Core.Bool.{Bool, true, false, cond}
-use mathlib.Core.List.{List, [], _∷_}
+use mathlib.Core.List.{List}
 use native.Mathlib.Nat.{zero-add, add-zero, mul-add, mul-assoc, mul-le-mul-left, mul-le-mul-right, pow-suc, pow-le-pow-right}
 use native.Mathlib.Numerals.{add-one}
 use native.Mathlib.Omega.{arith}
@@ -25,6 +25,10 @@ overAt next = record { fault = 29; value = 0; next = next }
 
 abbrev pub valueAt : ℕ → ℕ → Varint
 valueAt v next = record { fault = 0; value = v; next = next }
+
+-- one of the two, by whether the number fits
+abbrev pub fitted : Bool → ℕ → ℕ → Varint
+fitted t v next = cond t (valueAt v next) (overAt next)
 
 -- the loop that looks for the end of what stands at `at` has come to p
 pub record Seeking (l : List ℕ) (at p : ℕ) : Type 0 where
@@ -174,7 +178,7 @@ placed-next : (at : ℕ) (f : Front) → placed at f .next ≡ at + width f
 placed-next at cut = omega arith
 placed-next at (num v n) = by (fits v n)
   where
-    by : (t : Bool) → cond t (valueAt v (at + n)) (overAt (at + n)) .next ≡ at + n
+    by : (t : Bool) → fitted t v (at + n) .next ≡ at + n
     by true = refl
     by false = refl
 
@@ -189,11 +193,12 @@ placed-on : (at : ℕ) (f : Front) → _≡_ {A = Varint} (record { fault = plac
 placed-on at cut = rw add-zero
 placed-on at (num v n) = by (fits v n)
   where
-    by : (t : Bool) → _≡_ {A = Varint} (record { fault = cond t (valueAt v (0 + n)) (overAt (0 + n)) .fault; value = cond t (valueAt v (0 + n)) (overAt (0 + n)) .value; next = at + cond t (valueAt v (0 + n)) (overAt (0 + n)) .next }) (cond t (valueAt v (at + n)) (overAt (at + n)))
+    by : (t : Bool) → _≡_ {A = Varint} (record { fault = fitted t v (0 + n) .fault; value = fitted t v (0 + n) .value; next = at + fitted t v (0 + n) .next }) (fitted t v (at + n))
     by true = rw zero-add
     by false = rw zero-add
 
-pub read-on : (l : List ℕ) (at : ℕ) {v : Varint} → v ≡ varintAt (take (length l - at) (drop at l)) 0 → _≡_ {A = Varint} (record { fault = v .fault; value = v .value; next = at + v .next }) (varintAt l at)
+pub read-on : (l : List ℕ) (at : ℕ) {v : Varint} → v ≡ varintAt (take (length l - at) (drop at l)) 0
+    → _≡_ {A = Varint} (record { fault = v .fault; value = v .value; next = at + v .next }) (varintAt l at)
 unfolding varintAt
 read-on l at e = rw (e, take-all (length l - at) (drop at l) (omega (arith, length-drop at l))) (placed-on at (front (drop at l)))
 
@@ -211,6 +216,8 @@ module _ (l : List ℕ) (at : ℕ) (h : at < length l) where
   unfolding varintAt
   short-cut k m = rw (front-more l at h k, front-none l (at + 1) (omega arith))
 
-  pub short-two : 128 ≤ getD l at 0 → getD l at 0 < 256 → 2 ≤ length l - at → getD l (at + 1) 0 < 128 → valueAt (getD l at 0 - 128 + 128 * getD l (at + 1) 0) (at + 2) ≡ varintAt l at
+  pub short-two : 128 ≤ getD l at 0 → getD l at 0 < 256 → 2 ≤ length l - at → getD l (at + 1) 0 < 128
+      → valueAt (getD l at 0 - 128 + 128 * getD l (at + 1) 0) (at + 2) ≡ varintAt l at
   unfolding varintAt
-  short-two k s m n = rw (front-more l at h k, front-last l (at + 1) (omega arith) n, fits-yes (getD l at 0 - 128 + 128 * getD l (at + 1) 0) 2 (omega arith) (omega arith))
+  short-two k s m n =
+      rw (front-more l at h k, front-last l (at + 1) (omega arith) n, fits-yes (getD l at 0 - 128 + 128 * getD l (at + 1) 0) 2 (omega arith) (omega arith))

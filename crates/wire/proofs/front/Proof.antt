@@ -1,6 +1,7 @@
 -- `wire::front` meets its contract: `i` bytes are passed, and worth `value`. Assumes nothing.
-use Prim.Native.Nat.{_-_}
+use Prim.Native.Nat.{_-_, _<_}
 use native.Mathlib.Omega.{arith}
+use lib.ListN.{getD}
 use borrow.Author.Needs.{needs}
 use Rattle.wire.proofs.Reading.{Reading, read-start, read-cut, read-value, read-next, unit-small, sum-small, sum-more, nine-within, nine-then}
 use Rattle.wire.proofs.front.Statement.{statement}
@@ -36,11 +37,15 @@ add-t12 c = search needs
 returns-2 : tie.Need-returns-2 Inv-loop μ-loop
 returns-2 c = search (needs, read-value)
 
+-- the byte that was read
+byte : (c : tie.Else2 Inv-loop μ-loop) → getD (c .before .before .before .before .before .before .args .bytes .now) (c .before .before .before .before .loop .i) 0 < 256
+byte c = omega (arith, c .before .shared-slice-known2 .given (c .before .before .before .before .loop .i))
+
 mul-value : tie.Need-mul-value Inv-loop μ-loop
-mul-value c = omega (arith, sum-more (c .before .before .before .before .loop .inv) (c .before .before .before .loop-test .taken) (c .if2 .left) (omega (arith, c .before .shared-slice-known2 .given (c .before .before .before .before .loop .i))))
+mul-value c = omega (arith, sum-more (c .before .before .before .before .loop .inv) (c .before .before .before .loop-test .taken) (c .if2 .left) (byte c))
 
 add-value : tie.Need-add-value Inv-loop μ-loop
-add-value c = omega (arith, sum-more (c .before .before .before .before .loop .inv) (c .before .before .before .loop-test .taken) (c .if2 .left) (omega (arith, c .before .shared-slice-known2 .given (c .before .before .before .before .loop .i))))
+add-value c = omega (arith, sum-more (c .before .before .before .before .loop .inv) (c .before .before .before .loop-test .taken) (c .if2 .left) (byte c))
 
 mul-unit : tie.Need-mul-unit Inv-loop μ-loop
 mul-unit c = omega (arith, unit-small (c .before .before .before .before .loop .inv) (c .before .before .before .loop-test .taken))
@@ -52,7 +57,7 @@ loop-less : tie.Need-loop-less Inv-loop μ-loop
 loop-less c = search needs
 
 loop-again : tie.Need-loop-again Inv-loop μ-loop
-loop-again c = read-next (c .before .before .before .before .loop .inv) (c .before .before .if1 .left) (c .before .before .before .loop-test .taken) (c .if2 .left) (omega (arith, c .before .shared-slice-known2 .given (c .before .before .before .before .loop .i)))
+loop-again c = read-next (c .before .before .before .before .loop .inv) (c .before .before .if1 .left) (c .before .before .before .loop-test .taken) (c .if2 .left) (byte c)
 
 tenth-requires : tie.Need-tenth-requires Inv-loop μ-loop
 tenth-requires c κs = nine-within (c .before .loop .inv) (c .loop-test .left)

@@ -1,6 +1,7 @@
 -- `wire::read_varint` meets its contract: the two short ways, then the long one. Assumes nothing.
-use Prim.Native.Nat.{_+_}
+use Prim.Native.Nat.{_+_, _<_}
 use native.Mathlib.Omega.{arith}
+use lib.ListN.{getD}
 use borrow.Author.Needs.{needs}
 use Rattle.wire.proofs.Reading.{short-none, short-one, short-cut, short-two}
 use Rattle.wire.proofs.read_varint.Statement.{statement}
@@ -47,8 +48,9 @@ add-t15 c = search needs
 
 returns-4 : tie.Need-returns-4
 returns-4 c =
-    short-two (c .before .before .before .before .before .before .before .args .bytes .now) (c .before .before .before .before .before .before .before .args .at) (c .before .before .before .before .before .if1 .left) (c .before .before .before .if2 .left)
-    (omega (arith, c .before .before .before .before .shared-slice-known2 .given (c .before .before .before .before .before .before .before .args .at))) (c .before .before .if3 .left) (c .if4 .taken)
+    let g = c .before .before .before .before .before .before .before .args in
+    let b : getD (g .bytes .now) (g .at) 0 < 256 = omega (arith, c .before .before .before .before .shared-slice-known2 .given (g .at)) in
+    short-two (g .bytes .now) (g .at) (c .before .before .before .before .before .if1 .left) (c .before .before .before .if2 .left) b (c .before .before .if3 .left) (c .if4 .taken)
 
 read-long-requires : tie.Need-read-long-requires
 read-long-requires c κs = search needs
