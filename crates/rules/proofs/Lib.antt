@@ -28,4 +28,5 @@ pub mod Wire
 pub mod Refusals
 pub mod Packed
 pub mod Lists64
+pub mod MessageBack
 pub mod Theorems
