@@ -1,5 +1,5 @@
 -- Reading what the writer wrote gives the message back; two messages have two encodings, of at most 2574 bytes. Assumes nothing.
-use Prim.Native.Nat.{ℕ, zero, suc, _+_, _-_, _*_, _/_, _%_, _^_, _≤_, _<_}
+use Prim.Native.Nat.{ℕ, _+_, _-_, _*_, _/_, _%_, _^_, _≤_, _<_}
 use mathlib.Core.Path.{_≡_, refl, ap, sym, _∙_}
 use mathlib.Core.Bool.{Bool, true, false}
 use mathlib.Core.List.{List, [], _∷_, _++_, append-assoc, append-nil}
@@ -10,21 +10,25 @@ use lib.ListN.{length, length-append}
 use lib.Seq.{drop-append-seam, take-append-seam}
 use Rattle.rules.specs.State.{ConfState}
 use Rattle.rules.specs.Apply.{noConfState}
-use Rattle.rules.specs.Wire.{found, Payload, varint, bytes, payloadIn, Field, fieldIn, rowOf, row, groups, varintOf, tagOf, lengthField}
-use Rattle.rules.specs.Message.{Read, taken, withVoters, withLearners, withOutgoing, withNext, withFlag, entered, readRow, read, messageRead, packedOf, listField, flagField, encoded}
-use Rattle.rules.proofs.Wire.{row-none, row-next, field-within, groups-one, groups-more, varint-back}
+use Rattle.rules.specs.Wire.{found, Payload, varint, bytes, payloadIn, Field, fieldIn, row, groups, varintOf, tagOf, lengthField}
+use Rattle.rules.specs.Message.{taken, withVoters, withLearners, withOutgoing, withNext, withFlag, entered, readRow, read, messageRead, packedOf, listField, flagField, encoded}
+use Rattle.rules.proofs.Wire.{groups-one, groups-more, varint-back}
 use Rattle.rules.proofs.Packed.{Below, numbers-back, packed-size}
 use Rattle.rules.proofs.Lists64.{Few64}
+use Rattle.rules.proofs.MessageFirst.{row-end, row-first}
 
 -- ** A field that was written
 
+-- a tag taken apart
 tag-number : (f w : ℕ) → w < 8 → (8 * f + w) / 8 ≡ f
 tag-number f w h = omega arith
 
 tag-type : (f w : ℕ) → w < 8 → (8 * f + w) % 8 ≡ w
 tag-type f w h = omega arith
 
-payload-length : (l rest : List ℕ) → length l < 2 ^ 64 → payloadIn 2 (varintOf (length l) ++ (l ++ rest)) ≡ found (bytes l) (length (varintOf (length l)) + length l)
+-- what follows it
+payload-length : (l rest : List ℕ) → length l < 2 ^ 64
+    → payloadIn 2 (varintOf (length l) ++ (l ++ rest)) ≡ found (bytes l) (length (varintOf (length l)) + length l)
 unfolding payloadIn
 payload-length l rest h =
     rw (
@@ -39,17 +43,30 @@ unfolding payloadIn
 payload-varint v rest h = rw (varint-back v rest h)
 
 module _ (f : ℕ) (some : 0 < f) (below : f < 2 ^ 29) where
-  -- a tag, and what follows it
+  -- both
   tag-back : (w : ℕ) {p : Payload} {k : ℕ} (rest : List ℕ) → w < 8 → payloadIn w rest ≡ found p k
       → fieldIn (tagOf f w ++ rest) ≡ found (record { number = f; payload = p }) (length (tagOf f w) + k)
   unfolding fieldIn
   tag-back w rest h e =
-      rw (varint-back (8 * f + w) rest (omega arith), drop-append-seam (tagOf f w) rest, tag-number f w h, tag-type f w h, e, ne-eqb f 0 (omega arith), lt-ltb f (2 ^ 29) below)
+      rw (
+        varint-back (8 * f + w) rest (omega arith),
+        drop-append-seam (tagOf f w) rest,
+        tag-number f w h,
+        tag-type f w h,
+        e,
+        ne-eqb f 0 (omega arith),
+        lt-ltb f (2 ^ 29) below,
+      )
 
   pub bytes-back : (l rest : List ℕ) → length l < 2 ^ 64
       → fieldIn (lengthField f l ++ rest) ≡ found (record { number = f; payload = bytes l }) (length (lengthField f l))
   bytes-back l rest h =
-      rw (append-assoc (tagOf f 2) (varintOf (length l) ++ l) rest, append-assoc (varintOf (length l)) l rest, length-append (tagOf f 2) (varintOf (length l) ++ l), length-append (varintOf (length l)) l)
+      rw (
+        append-assoc (tagOf f 2) (varintOf (length l) ++ l) rest,
+        append-assoc (varintOf (length l)) l rest,
+        length-append (tagOf f 2) (varintOf (length l) ++ l),
+        length-append (varintOf (length l)) l,
+      )
       (tag-back 2 (varintOf (length l) ++ (l ++ rest)) (omega arith) (payload-length l rest h))
 
   pub varint-field-back : (v : ℕ) (rest : List ℕ) → v < 2 ^ 64
@@ -60,22 +77,10 @@ module _ (f : ℕ) (some : 0 < f) (below : f < 2 ^ 29) where
 
 -- ** Fields one after the other
 
--- every sufficient number of fields reads l into r
-Reads : List ℕ → ConfState → Read → Type 0
-Reads l m r = (k : ℕ) → length l ≤ k → readRow (rowOf k l) m ≡ r
-
-reads-none : (m : ConfState) → Reads [] m (taken m)
-unfolding Reads readRow
-reads-none m k h = rw (row-none k)
-
-reads-next : (a rest : List ℕ) (m : ConfState) {f : Field} {n : ConfState} (r : Read) → fieldIn (a ++ rest) ≡ found f (length a) → entered f m ≡ taken n
-    → Reads rest n r → Reads (a ++ rest) m r
-unfolding Reads readRow
-reads-next a rest m r e g t zero h = absurd (omega (arith, field-within (a ++ rest) e .0, field-within (a ++ rest) e .1))
-reads-next a rest m r e g t (suc k) h =
-    let w : 0 < length a = field-within (a ++ rest) e .0 in
-    let s : length (a ++ rest) ≡ length a + length rest = length-append a rest in
-    rw (row-next k (a ++ rest) (omega arith) e, g, drop-append-seam a rest) (t k (omega arith))
+read-next : (a rest : List ℕ) (m : ConfState) {f : Field} {n : ConfState} → fieldIn (a ++ rest) ≡ found f (length a) → entered f m ≡ taken n
+    → readRow (row (a ++ rest)) m ≡ readRow (row rest) n
+unfolding readRow
+read-next a rest m e g = rw (row-first (a ++ rest) e, g, drop-append-seam a rest)
 
 -- ** A list, where there was none
 
@@ -96,23 +101,29 @@ module _ (m : ConfState) (xs : List ℕ) (few : length xs ≤ 64) (b : Below xs)
   unfolding entered
   next-in e = rw (e, numbers-back xs b, le-leb (length xs) 64 few)
 
-reads-list : (m : ConfState) (f : ℕ) → 0 < f → f < 2 ^ 29 → (xs rest : List ℕ) {n : ConfState} (r : Read) → length xs ≤ 64
-    → entered (record { number = f; payload = bytes (packedOf xs) }) m ≡ taken n → (xs ≡ [] → n ≡ m) → Reads rest n r → Reads (listField f xs ++ rest) m r
+read-list : (m : ConfState) (f : ℕ) → 0 < f → f < 2 ^ 29 → (xs rest : List ℕ) {n : ConfState} → length xs ≤ 64
+    → entered (record { number = f; payload = bytes (packedOf xs) }) m ≡ taken n → (xs ≡ [] → n ≡ m)
+    → readRow (row (listField f xs ++ rest)) m ≡ readRow (row rest) n
 unfolding listField
-reads-list m f p q [] rest r few e keep t = rw (← keep refl) t
-reads-list m f p q (x ∷ xs) rest r few e keep t =
-    reads-next (lengthField f (packedOf (x ∷ xs))) rest m r (bytes-back f p q (packedOf (x ∷ xs)) rest (omega (arith, packed-size (x ∷ xs)))) e t
+read-list m f p q [] rest few e keep = ap (readRow (row rest)) (sym (keep refl))
+read-list m f p q (x ∷ xs) rest few e keep =
+    read-next (lengthField f (packedOf (x ∷ xs))) rest m (bytes-back f p q (packedOf (x ∷ xs)) rest (omega (arith, packed-size (x ∷ xs)))) e
 
+-- the flag, where it was not set
 flag-in : (m : ConfState) → entered (record { number = 5; payload = varint 1 }) m ≡ taken (withFlag true m)
 unfolding entered
 flag-in m = refl
 
-reads-flag : (b : Bool) (m : ConfState) → m .autoLeave ≡ false → Reads (flagField b) m (taken (withFlag b m))
+read-none : (m : ConfState) → readRow (row []) m ≡ taken m
+unfolding readRow
+read-none m = rw row-end
+
+read-flag : (b : Bool) (m : ConfState) → m .autoLeave ≡ false → readRow (row (flagField b)) m ≡ taken (withFlag b m)
 unfolding flagField
-reads-flag false m e = rw (← e) (reads-none m)
-reads-flag true m e =
+read-flag false m e = read-none m ∙ rw (← e)
+read-flag true m e =
     rw (← append-nil (tagOf 5 0 ++ varintOf 1))
-    (reads-next (tagOf 5 0 ++ varintOf 1) [] m (taken (withFlag true m)) (varint-field-back 5 (omega arith) (omega arith) 1 [] (omega arith)) (flag-in m) (reads-none (withFlag true m)))
+    (read-next (tagOf 5 0 ++ varintOf 1) [] m (varint-field-back 5 (omega arith) (omega arith) 1 [] (omega arith)) (flag-in m) ∙ read-none (withFlag true m))
 
 -- ** The message
 
@@ -123,6 +134,7 @@ pub record Below64 (m : ConfState) : Type 0 where
   pub votersOutgoing : Below (m .votersOutgoing)
   pub learnersNext : Below (m .learnersNext)
 
+-- the message after its first lists
 abbrev part-1 : ConfState → ConfState
 part-1 m = withVoters (m .voters) noConfState
 
@@ -136,18 +148,17 @@ abbrev part-4 : ConfState → ConfState
 part-4 m = withNext (m .learnersNext) (part-3 m)
 
 pub read-encoded : (m : ConfState) → Few64 m → Below64 m → read (encoded m) ≡ taken m
-unfolding read row encoded Reads
+unfolding read encoded
 read-encoded m s b =
-    reads-list noConfState 1 (omega arith) (omega arith) (m .voters) _ (taken m) (s .voters)
+    read-list noConfState 1 (omega arith) (omega arith) (m .voters) _ (s .voters)
     (voters-in noConfState (m .voters) (s .voters) (b .voters) refl) (λ e. rw e)
-    (reads-list (part-1 m) 2 (omega arith) (omega arith) (m .learners) _ (taken m) (s .learners)
+    ∙ (read-list (part-1 m) 2 (omega arith) (omega arith) (m .learners) _ (s .learners)
     (learners-in (part-1 m) (m .learners) (s .learners) (b .learners) refl) (λ e. rw e)
-    (reads-list (part-2 m) 3 (omega arith) (omega arith) (m .votersOutgoing) _ (taken m) (s .votersOutgoing)
+    ∙ (read-list (part-2 m) 3 (omega arith) (omega arith) (m .votersOutgoing) _ (s .votersOutgoing)
     (outgoing-in (part-2 m) (m .votersOutgoing) (s .votersOutgoing) (b .votersOutgoing) refl) (λ e. rw e)
-    (reads-list (part-3 m) 4 (omega arith) (omega arith) (m .learnersNext) _ (taken m) (s .learnersNext)
+    ∙ (read-list (part-3 m) 4 (omega arith) (omega arith) (m .learnersNext) _ (s .learnersNext)
     (next-in (part-3 m) (m .learnersNext) (s .learnersNext) (b .learnersNext) refl) (λ e. rw e)
-    (reads-flag (m .autoLeave) (part-4 m) refl))))
-    (length (encoded m)) (omega arith)
+    ∙ read-flag (m .autoLeave) (part-4 m) refl)))
 
 -- two messages have two encodings
 pub encoded-one : (m n : ConfState) → Few64 m → Below64 m → Few64 n → Below64 n → encoded m ≡ encoded n → m ≡ n
@@ -155,6 +166,7 @@ encoded-one m n s b t d e = ap messageRead (sym (read-encoded m s b) ∙ (ap rea
 
 -- ** How long it is
 
+-- a tag takes one byte, the length of a list one or two
 length-one : (n : ℕ) → n < 128 → length (varintOf n) ≡ 1
 unfolding varintOf
 length-one n h = rw (groups-one 9 n h)
