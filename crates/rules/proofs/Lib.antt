@@ -28,4 +28,6 @@ pub mod Wire
 pub mod Refusals
 pub mod Packed
 pub mod Lists64
+pub mod MessageFirst
+pub mod MessageBack
 pub mod Theorems
