@@ -10,15 +10,9 @@ use lib.ListN.{length}
 use Rattle.rules.specs.State.{ConfState}
 use Rattle.rules.specs.Apply.{noConfState}
 use Rattle.rules.specs.Wire.{Payload, varint, fixed, bytes, Field, Row, end, fault, next, row}
-use Rattle.rules.specs.Message.{Numbers, faulty, all, numbers, grown, Read, refused, taken, withVoters, withLearners, withOutgoing, withNext, listed, flagged, entered, goOn, readRow, read}
+use Rattle.rules.specs.Message.{Few64, Numbers, faulty, all, numbers, grown, Read, refused, taken, withVoters, withLearners, withOutgoing, withNext, listed, flagged, entered, goOn, readRow, read}
 
 -- ** A list that grows
-
-pub record Few64 (m : ConfState) : Type 0 where
-  pub voters : length (m .voters) ≤ 64
-  pub learners : length (m .learners) ≤ 64
-  pub votersOutgoing : length (m .votersOutgoing) ≤ 64
-  pub learnersNext : length (m .learnersNext) ≤ 64
 
 abbrev FewNumbers : Numbers → Type 0
 FewNumbers (faulty e) = Unit {0}

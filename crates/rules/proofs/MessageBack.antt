@@ -11,10 +11,9 @@ use lib.Seq.{drop-append-seam, take-append-seam}
 use Rattle.rules.specs.State.{ConfState}
 use Rattle.rules.specs.Apply.{noConfState}
 use Rattle.rules.specs.Wire.{found, Payload, varint, bytes, payloadIn, Field, fieldIn, row, groups, varintOf, tagOf, lengthField}
-use Rattle.rules.specs.Message.{taken, withVoters, withLearners, withOutgoing, withNext, withFlag, entered, readRow, read, messageRead, packedOf, listField, flagField, encoded}
+use Rattle.rules.specs.Message.{Few64, Below, Below64, taken, withVoters, withLearners, withOutgoing, withNext, withFlag, entered, readRow, read, messageRead, packedOf, listField, flagField, encoded}
 use Rattle.rules.proofs.Wire.{groups-one, groups-more, varint-back}
-use Rattle.rules.proofs.Packed.{Below, numbers-back, packed-size}
-use Rattle.rules.proofs.Lists64.{Few64}
+use Rattle.rules.proofs.Packed.{numbers-back, packed-size}
 use Rattle.rules.proofs.MessageFirst.{row-end, row-first}
 
 -- ** A field that was written
@@ -126,13 +125,6 @@ read-flag true m e =
     (read-next (tagOf 5 0 ++ varintOf 1) [] m (varint-field-back 5 (omega arith) (omega arith) 1 [] (omega arith)) (flag-in m) ∙ read-none (withFlag true m))
 
 -- ** The message
-
--- each id of each list below 2 ^ 64
-pub record Below64 (m : ConfState) : Type 0 where
-  pub voters : Below (m .voters)
-  pub learners : Below (m .learners)
-  pub votersOutgoing : Below (m .votersOutgoing)
-  pub learnersNext : Below (m .learnersNext)
 
 -- the message after its first lists
 abbrev part-1 : ConfState → ConfState

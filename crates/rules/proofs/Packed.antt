@@ -8,7 +8,7 @@ use lib.Dec.{ltb}
 use lib.ListN.{length, drop, length-append}
 use lib.Seq.{drop-append-seam}
 use Rattle.rules.specs.Wire.{Front, cut, num, more, front, found, judged, varintOf, groups}
-use Rattle.rules.specs.Message.{faulty, all, carried, fronts, before, gathered, packed, packedOf}
+use Rattle.rules.specs.Message.{Below, faulty, all, carried, fronts, before, gathered, packed, packedOf}
 use Rattle.rules.proofs.Wire.{fits-yes, front-groups, varint-length}
 
 -- ** The first number apart
@@ -54,11 +54,6 @@ packed-num [] e = no-front e
 packed-num (b ∷ bs) e = ap gathered (fronts-split b bs ∙ ap (split (b ∷ bs)) e)
 
 -- ** What was packed
-
--- each number of a list below 2 ^ 64
-abbrev pub Below : List ℕ → Type 0
-Below [] = Unit {0}
-Below (x ∷ xs) = (x < 2 ^ 64) × Below xs
 
 packed-one : (x : ℕ) (rest : List ℕ) → x < 2 ^ 64 → packed (varintOf x ++ rest) ≡ before (found x (length (varintOf x))) (packed rest)
 unfolding varintOf

@@ -1,5 +1,5 @@
 -- ConfState as it travels: document 02, k). Assumes nothing.
-use Prim.Native.Nat.{ℕ, zero, suc, _+_, _-_}
+use Prim.Native.Nat.{ℕ, _-_, _^_, _≤_, _<_}
 use mathlib.Core.Bool.{Bool, true, false, _||_, not, cond}
 use mathlib.Core.List.{List, [], _∷_, _++_}
 use lib.Dec.{eqb, leb, ltb}
@@ -124,6 +124,24 @@ messageRead (refused e) = noConfState
 messageRead (taken m) = m
 
 -- ** The writer
+
+-- a message of at most 64 ids in each list
+pub record Few64 (m : ConfState) : Type 0 where
+  pub voters : length (m .voters) ≤ 64
+  pub learners : length (m .learners) ≤ 64
+  pub votersOutgoing : length (m .votersOutgoing) ≤ 64
+  pub learnersNext : length (m .learnersNext) ≤ 64
+
+-- each id is a 64-bit number
+abbrev pub Below : List ℕ → Type 0
+Below [] = Unit {0}
+Below (x ∷ xs) = (x < 2 ^ 64) × Below xs
+
+pub record Below64 (m : ConfState) : Type 0 where
+  pub voters : Below (m .voters)
+  pub learners : Below (m .learners)
+  pub votersOutgoing : Below (m .votersOutgoing)
+  pub learnersNext : Below (m .learnersNext)
 
 -- the numbers one after the other
 unfoldable pub packedOf : List ℕ → List ℕ

@@ -1,0 +1,90 @@
+use borrow.Author.Needs.{needs}
+use Rattle.confstate.proofs.read.field.Statement.{statement}
+use Rattle.confstate.proofs.read.field.Tie as tie
+use Rattle.confstate.proofs.read.field.Reads as reads
+use Rattle.confstate.proofs.read.field.Lts as lts
+use Rattle.confstate.proofs.read.fixed_field.Reads as fixed-field-reads
+use Rattle.confstate.proofs.read.length_field.Reads as length-field-reads
+use Rattle.confstate.proofs.read.refused.Reads as refused-reads
+use Rattle.confstate.proofs.read.varint_field.Reads as varint-field-reads
+use Rattle.wire.proofs.read_varint.Reads as read-varint-reads
+
+-- src/read.rt:70:9
+read-varint-requires : tie.Need-read-varint-requires
+read-varint-requires c κs = search needs
+
+-- src/read.rt:72:9
+refused-requires : tie.Need-refused-requires
+refused-requires c κs = search needs
+
+-- src/read.rt:72:9
+returns : tie.Need-returns
+returns c = search needs
+
+-- src/read.rt:77:9
+length-field-requires : tie.Need-length-field-requires
+length-field-requires c κs = search needs
+
+-- src/read.rt:77:9
+same-length : tie.Need-same-length
+same-length c = search needs
+
+-- src/read.rt:77:9
+returns-2 : tie.Need-returns-2
+returns-2 c = search needs
+
+-- src/read.rt:80:9
+varint-field-requires : tie.Need-varint-field-requires
+varint-field-requires c κs = search needs
+
+-- src/read.rt:80:9
+same-length-2 : tie.Need-same-length-2
+same-length-2 c = search needs
+
+-- src/read.rt:80:9
+returns-3 : tie.Need-returns-3
+returns-3 c = search needs
+
+-- src/read.rt:83:9
+fixed-field-requires : tie.Need-fixed-field-requires
+fixed-field-requires c κs = search needs
+
+-- src/read.rt:83:9
+returns-4 : tie.Need-returns-4
+returns-4 c = search needs
+
+-- src/read.rt:86:9
+fixed-field-requires-2 : tie.Need-fixed-field-requires-2
+fixed-field-requires-2 c κs = search needs
+
+-- src/read.rt:86:9
+returns-5 : tie.Need-returns-5
+returns-5 c = search needs
+
+-- src/read.rt:88:5
+refused-requires-2 : tie.Need-refused-requires-2
+refused-requires-2 c κs = search needs
+
+-- src/read.rt:66:1
+returns-6 : tie.Need-returns-6
+returns-6 c = search needs
+
+pub field-spec : {M : Type 1} → statement M
+field-spec =
+    tie.close
+    (tie.spec
+    read-varint-requires
+    refused-requires
+    returns
+    length-field-requires
+    same-length
+    returns-2
+    varint-field-requires
+    same-length-2
+    returns-3
+    fixed-field-requires
+    returns-4
+    fixed-field-requires-2
+    returns-5
+    refused-requires-2
+    returns-6)

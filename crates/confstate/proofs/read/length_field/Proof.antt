@@ -1,0 +1,144 @@
+use borrow.Author.Needs.{needs}
+use Rattle.confstate.proofs.read.length_field.Statement.{statement}
+use Rattle.confstate.proofs.read.length_field.Tie as tie
+use Rattle.confstate.proofs.read.length_field.Reads as reads
+use Rattle.confstate.proofs.read.length_field.Lts as lts
+use Rattle.confstate.proofs.read.misnumbered.Reads as misnumbered-reads
+use Rattle.confstate.proofs.read.packed.Reads as packed-reads
+use Rattle.confstate.proofs.read.refused.Reads as refused-reads
+use Rattle.wire.proofs.read_long.Reads as read-long-reads
+
+-- src/read.rt:154:9
+read-long-requires : tie.Need-read-long-requires
+read-long-requires c κs = search needs
+
+-- src/read.rt:156:9
+refused-requires : tie.Need-refused-requires
+refused-requires c κs = search needs
+
+-- src/read.rt:156:9
+returns : tie.Need-returns
+returns c = search needs
+
+-- src/read.rt:159:16
+sub-left : tie.Need-sub-left
+sub-left c = search needs
+
+-- src/read.rt:161:9
+refused-requires-2 : tie.Need-refused-requires-2
+refused-requires-2 c κs = search needs
+
+-- src/read.rt:161:9
+returns-2 : tie.Need-returns-2
+returns-2 c = search needs
+
+-- src/read.rt:163:8
+misnumbered-requires : tie.Need-misnumbered-requires
+misnumbered-requires c κs = search needs
+
+-- src/read.rt:164:9
+refused-requires-3 : tie.Need-refused-requires-3
+refused-requires-3 c κs = search needs
+
+-- src/read.rt:164:9
+returns-3 : tie.Need-returns-3
+returns-3 c = search needs
+
+-- src/read.rt:166:15
+add-end : tie.Need-add-end
+add-end c = search needs
+
+-- src/read.rt:168:23
+sub-k : tie.Need-sub-k
+sub-k c = search needs
+
+-- src/read.rt:168:17
+mul-k : tie.Need-mul-k
+mul-k c = search needs
+
+-- src/read.rt:170:27
+sub-packed : tie.Need-sub-packed
+sub-packed c = search needs
+
+-- src/read.rt:170:27
+part-packed-start : tie.Need-part-packed-start
+part-packed-start c = search needs
+
+-- src/read.rt:170:27
+part-packed-end : tie.Need-part-packed-end
+part-packed-end c = search needs
+
+-- src/read.rt:170:61
+add-packed : tie.Need-add-packed
+add-packed c = search needs
+
+-- src/read.rt:170:47
+mul-packed : tie.Need-mul-packed
+mul-packed c = search needs
+
+-- src/read.rt:170:47
+sub-packed-2 : tie.Need-sub-packed-2
+sub-packed-2 c = search needs
+
+-- src/read.rt:170:47
+part-packed-start-2 : tie.Need-part-packed-start-2
+part-packed-start-2 c = search needs
+
+-- src/read.rt:170:47
+part-packed-end-2 : tie.Need-part-packed-end-2
+part-packed-end-2 c = search needs
+
+-- src/read.rt:170:20
+packed-requires : tie.Need-packed-requires
+packed-requires c κs = search needs
+
+-- src/read.rt:169:9
+same-length : tie.Need-same-length
+same-length c = search needs
+
+-- src/read.rt:169:9
+returns-4 : tie.Need-returns-4
+returns-4 c = search needs
+
+-- src/read.rt:175:9
+refused-requires-4 : tie.Need-refused-requires-4
+refused-requires-4 c κs = search needs
+
+-- src/read.rt:175:9
+returns-5 : tie.Need-returns-5
+returns-5 c = search needs
+
+-- src/read.rt:150:1
+returns-6 : tie.Need-returns-6
+returns-6 c = search needs
+
+pub length-field-spec : {M : Type 1} → statement M
+length-field-spec =
+    tie.close
+    (tie.spec
+    read-long-requires
+    refused-requires
+    returns
+    sub-left
+    refused-requires-2
+    returns-2
+    misnumbered-requires
+    refused-requires-3
+    returns-3
+    add-end
+    sub-k
+    mul-k
+    sub-packed
+    part-packed-start
+    part-packed-end
+    add-packed
+    mul-packed
+    sub-packed-2
+    part-packed-start-2
+    part-packed-end-2
+    packed-requires
+    same-length
+    returns-4
+    refused-requires-4
+    returns-5
+    returns-6)

@@ -1,0 +1,17 @@
+use borrow.Author.Needs.{needs}
+use native.Mathlib.Omega.{arith}
+use Rattle.confstate.proofs.read.misnumbered.Statement.{statement}
+use Rattle.confstate.proofs.read.misnumbered.Tie as tie
+use Rattle.confstate.proofs.read.misnumbered.Reads as reads
+use Rattle.confstate.proofs.read.misnumbered.Lts as lts
+
+-- src/read.rt:105:9
+returns : tie.Need-returns
+returns c = search needs
+
+-- src/read.rt:101:1
+returns-2 : tie.Need-returns-2
+returns-2 c = search needs
+
+pub misnumbered-spec : {M : Type 1} → statement M
+misnumbered-spec = tie.close (tie.spec returns returns-2)

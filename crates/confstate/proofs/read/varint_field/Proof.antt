@@ -1,0 +1,120 @@
+use borrow.Author.Needs.{needs}
+use Rattle.confstate.proofs.read.varint_field.Statement.{statement}
+use Rattle.confstate.proofs.read.varint_field.Tie as tie
+use Rattle.confstate.proofs.read.varint_field.Reads as reads
+use Rattle.confstate.proofs.read.varint_field.Lts as lts
+use Rattle.confstate.proofs.read.flag.Reads as flag-reads
+use Rattle.confstate.proofs.read.misnumbered.Reads as misnumbered-reads
+use Rattle.confstate.proofs.read.refused.Reads as refused-reads
+use Rattle.confstate.proofs.read.single.Reads as single-reads
+use Rattle.wire.proofs.read_varint.Reads as read-varint-reads
+
+-- src/read.rt:115:9
+read-varint-requires : tie.Need-read-varint-requires
+read-varint-requires c κs = search needs
+
+-- src/read.rt:117:9
+refused-requires : tie.Need-refused-requires
+refused-requires c κs = search needs
+
+-- src/read.rt:117:9
+returns : tie.Need-returns
+returns c = search needs
+
+-- src/read.rt:119:8
+misnumbered-requires : tie.Need-misnumbered-requires
+misnumbered-requires c κs = search needs
+
+-- src/read.rt:120:9
+refused-requires-2 : tie.Need-refused-requires-2
+refused-requires-2 c κs = search needs
+
+-- src/read.rt:120:9
+returns-2 : tie.Need-returns-2
+returns-2 c = search needs
+
+-- src/read.rt:123:23
+sub-k : tie.Need-sub-k
+sub-k c = search needs
+
+-- src/read.rt:123:17
+mul-k : tie.Need-mul-k
+mul-k c = search needs
+
+-- src/read.rt:125:50
+add-single : tie.Need-add-single
+add-single c = search needs
+
+-- src/read.rt:125:36
+mul-single : tie.Need-mul-single
+mul-single c = search needs
+
+-- src/read.rt:125:36
+sub-single : tie.Need-sub-single
+sub-single c = search needs
+
+-- src/read.rt:125:36
+part-single-start : tie.Need-part-single-start
+part-single-start c = search needs
+
+-- src/read.rt:125:36
+part-single-end : tie.Need-part-single-end
+part-single-end c = search needs
+
+-- src/read.rt:125:20
+single-requires : tie.Need-single-requires
+single-requires c κs = search needs
+
+-- src/read.rt:124:9
+same-length : tie.Need-same-length
+same-length c = search needs
+
+-- src/read.rt:124:9
+returns-3 : tie.Need-returns-3
+returns-3 c = search needs
+
+-- src/read.rt:130:22
+flag-requires : tie.Need-flag-requires
+flag-requires c κs = search needs
+
+-- src/read.rt:130:9
+slice-write-words : tie.Need-slice-write-words
+slice-write-words c = search needs
+
+-- src/read.rt:131:9
+same-length-2 : tie.Need-same-length-2
+same-length-2 c = search needs
+
+-- src/read.rt:131:9
+returns-4 : tie.Need-returns-4
+returns-4 c = search needs
+
+-- src/read.rt:111:1
+returns-5 : tie.Need-returns-5
+returns-5 c = search needs
+
+pub varint-field-spec : {M : Type 1} → statement M
+varint-field-spec =
+    tie.close
+    (tie.spec
+    read-varint-requires
+    refused-requires
+    returns
+    misnumbered-requires
+    refused-requires-2
+    returns-2
+    sub-k
+    mul-k
+    add-single
+    mul-single
+    sub-single
+    part-single-start
+    part-single-end
+    single-requires
+    same-length
+    returns-3
+    flag-requires
+    slice-write-words
+    same-length-2
+    returns-4
+    returns-5)
