@@ -25,7 +25,7 @@ pub fn write(conf_state: &[u64], bytes: &mut [u8]) -> u64
     if number != 0 {
         return 4294967296 + number;
     }
-    let s = sizes(conf_state);
+    let s = count(conf_state);
     if bytes.len() < total(s, conf_state[260]) {
         return 4294967296 + 31;
     }
@@ -57,7 +57,7 @@ fn refusal(words: &[u64]) -> u64
     0
 }
 
-fn sizes(words: &[u64]) -> Sizes
+fn count(words: &[u64]) -> Sizes
     requires { ⌜ Writable (now words) ⌝ }
     ensures { λ r. ⌜ r ≡ sizesOf (messageIn (now (words .entry))) ⌝ }
 {
