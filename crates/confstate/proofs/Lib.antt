@@ -1,3 +1,6 @@
 pub mod Words
 pub mod Clearing
 pub mod Packing
+pub mod Fields
+pub mod Tags
+pub mod Answers

@@ -6,7 +6,7 @@ use mathlib.Core.List.{List, [], _∷_, _++_, append-nil}
 use native.Mathlib.Omega.{arith}
 use borrow.Author.Tests.{lt-ltb, le-ltb, le-leb, lt-leb, ltb-true, ltb-false}
 use lib.Dec.{leb, ltb}
-use lib.ListN.{length, take, drop, getD, set, length-take, length-drop, length-append, drop-of-length-le}
+use lib.ListN.{length, take, drop, getD, set, length-set, length-drop, length-append, drop-of-length-le}
 use lib.Seq.{append-snoc, take-all, take-append-le, drop-drop}
 use Rattle.rules.specs.Wire.{Front, cut, num, front, fits, Found, bad, found, judged, varintIn}
 use Rattle.rules.specs.Message.{Numbers, faulty, all, lower, before, packed, grown}
@@ -17,7 +17,7 @@ use Rattle.wire.specs.declared.Varint.{Varint}
 use Rattle.wire.proofs.Found.{read-bad, read-found, read-fault, found-within}
 use Rattle.confstate.specs.Words.{listWords, listIn}
 use Rattle.confstate.specs.Steps.{Listing, Grows}
-use Rattle.confstate.proofs.Words.{counted, counted-length, count-set, told, id-set, listed-words}
+use Rattle.confstate.proofs.Words.{counted, count-set, told, id-set, listed-count}
 
 -- ** Packed numbers, by what is read first
 
@@ -102,24 +102,22 @@ stored zs c x = by (ltb (length zs) 64) refl
 -- the loop has come to p: `old` was there before, c is the count that stands in the words meanwhile
 pub record Packing (l old : List ℕ) (c : ℕ) (ws : List ℕ) (n : ℕ) (over : Bool) (p : ℕ) : Type 0 where
   pub seen : List ℕ
+  pub long : length ws ≡ 65
   pub spot : p ≤ length l
   pub count : n ≡ length seen
   pub bound : n ≤ 64 + p
   pub holds : ws ≡ counted (take 64 seen) c
   pub same : result over seen (packed (drop p l)) ≡ grown old (packed l)
 
-pub packing-length : {l old : List ℕ} {c : ℕ} {ws : List ℕ} {n : ℕ} {over : Bool} {p : ℕ} → Packing l old c ws n over p → length ws ≡ 65
-packing-length {l} {old} {c} k =
-    ap length (k .holds) ∙ counted-length (take 64 (k .seen)) c (simp length-take (omega arith))
-
-pub packing-start : (l : List ℕ) {ws : List ℕ} → Listing ws → Packing l (listIn ws 0) (length (listIn ws 0)) ws (getD ws 64 0) false 0
+pub packing-start : {l : List ℕ} {ws : List ℕ} → Listing ws → Packing l (listIn ws 0) (length (listIn ws 0)) ws (getD ws 64 0) false 0
 unfolding listWords
-packing-start l {ws} k =
+packing-start {l} {ws} k =
     record {
+      long = k .long;
       seen = listIn ws 0;
       spot = omega arith;
-      count = listed-words k .1;
-      bound = omega (arith, k .few, listed-words k .1);
+      count = listed-count k;
+      bound = omega (arith, k .few, listed-count k);
       holds = k .words ∙ ap (λ (x : List ℕ). counted x (length (listIn ws 0))) (sym (take-all 64 (listIn ws 0) (k .few)));
       same = refl;
     }
@@ -152,10 +150,15 @@ module _ {l old : List ℕ} {c : ℕ} {ws : List ℕ} {n p : ℕ} {over : Bool} 
       pub value-within : (p < v .next) × (v .next ≤ length l)
       value-within = (omega (arith, found-within (drop p l) reads .0, ends), omega (arith, found-within (drop p l) reads .1, ends, length-drop p l))
 
+      kept : (t : Bool) → length (cond t (set ws n (v .value)) ws) ≡ length ws
+      kept true = length-set ws n (v .value)
+      kept false = refl
+
       pub packing-next : {m : List ℕ} → m ≡ cond (ltb n 64) (set ws n (v .value)) ws → Packing l old c m (n + 1) over (v .next)
       packing-next {m} g =
           let d : drop size (drop p l) ≡ drop (v .next) l = drop-drop size p l ∙ ap (λ (j : ℕ). drop j l) (sym ends) in
           record {
+            long = ap length g ∙ (kept (ltb n 64) ∙ k .long);
             seen = k .seen ++ (v .value ∷ []);
             spot = value-within .1;
             count = omega (arith, k .count, length-append (k .seen) (v .value ∷ []));
@@ -182,6 +185,7 @@ module _ {l old : List ℕ} {c : ℕ} {ws : List ℕ} {n p : ℕ} {over : Bool} 
       packing-over =
           let d : drop wide (drop p l) ≡ drop (v .next) l = drop-drop wide p l ∙ ap (λ (j : ℕ). drop j l) (sym over-ends) in
           record {
+            long = k .long;
             seen = k .seen;
             spot = over-within .1;
             count = k .count;

@@ -40,19 +40,14 @@ unfolding listWords
 front-of xs = take-append-seam xs (replicate (64 - length xs) 0 ++ (length xs ∷ []))
 
 pub listing : (xs : List ℕ) → length xs ≤ 64 → Listing (listWords xs)
-listing xs h = record { words = sym (ap listWords (list-back xs h)); few = subst (λ (l : List ℕ). length l ≤ 64) (sym (list-back xs h)) h }
+listing xs h = record { long = list-length xs h; words = sym (ap listWords (list-back xs h)); few = subst (λ (l : List ℕ). length l ≤ 64) (sym (list-back xs h)) h }
 
-pub listed-words : {ws : List ℕ} (k : Listing ws) → (length ws ≡ 65) × (getD ws 64 0 ≡ length (listIn ws 0))
-listed-words {ws} k = (ap length (k .words) ∙ list-length (listIn ws 0) (k .few), ap (λ (l : List ℕ). getD l 64 0) (k .words) ∙ list-count (listIn ws 0) (k .few))
+pub listed-count : {ws : List ℕ} (k : Listing ws) → getD ws 64 0 ≡ length (listIn ws 0)
+listed-count {ws} k = ap (λ (l : List ℕ). getD l 64 0) (k .words) ∙ list-count (listIn ws 0) (k .few)
 
 -- a list whose last word is c
 abbrev pub counted : List ℕ → ℕ → List ℕ
 counted xs c = xs ++ (replicate (64 - length xs) 0 ++ (c ∷ []))
-
-pub counted-length : (xs : List ℕ) (c : ℕ) → length xs ≤ 64 → length (counted xs c) ≡ 65
-counted-length xs c h =
-    ap length (sym (append-assoc xs (replicate (64 - length xs) 0) (c ∷ [])))
-    ∙ (length-append (xs ++ replicate (64 - length xs) 0) (c ∷ []) ∙ ap (λ (n : ℕ). n + 1) (places xs h))
 
 pub told : (xs : List ℕ) {n : ℕ} → n ≡ length xs → counted xs n ≡ listWords xs
 unfolding listWords
@@ -240,4 +235,4 @@ module _ (m : ConfState) (few : Few64 m) where
       λ i. record { voters = a i; learners = b i; votersOutgoing = c i; learnersNext = d i; autoLeave = f i }
 
   pub holding : Holding (confStateWords m)
-  holding = record { words = sym (ap confStateWords words-back); few = subst Few64 (sym words-back) few }
+  holding = record { long = words-length; words = sym (ap confStateWords words-back); few = subst Few64 (sym words-back) few }

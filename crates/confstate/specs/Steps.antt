@@ -14,10 +14,12 @@ use Rattle.confstate.specs.declared.read.Taken.{Taken}
 
 -- words that are those of a message, and of a list
 pub record Holding (ws : List ℕ) : Type 0 where
+  pub long : length ws ≡ 261
   pub words : ws ≡ confStateWords (messageIn ws)
   pub few : Few64 (messageIn ws)
 
 pub record Listing (ws : List ℕ) : Type 0 where
+  pub long : length ws ≡ 65
   pub words : ws ≡ listWords (listIn ws 0)
   pub few : length (listIn ws 0) ≤ 64
 

@@ -1,3 +1,6 @@
+use Prim.Native.Nat.{_-_}
+use lib.ListN.{length}
+use Rattle.confstate.proofs.Clearing.{Clearing, clear-start, clear-next, clear-end}
 use borrow.Author.Needs.{needs}
 use native.Mathlib.Omega.{arith}
 use Rattle.confstate.proofs.read.clear.Statement.{statement}
@@ -6,14 +9,14 @@ use Rattle.confstate.proofs.read.clear.Reads as reads
 use Rattle.confstate.proofs.read.clear.Lts as lts
 
 abbrev Inv-loop : tie.InvT-loop
-Inv-loop words₀ i₀ words i = ?
+Inv-loop words₀ i₀ words i = Clearing words₀ words i
 
 abbrev μ-loop : tie.MeasureT-loop
-μ-loop words₀ i₀ words i = ?
+μ-loop words₀ i₀ words i = length words₀ - i
 
 -- src/read.rt:43:5
 loop-holds : tie.Need-loop-holds Inv-loop μ-loop
-loop-holds c = search needs
+loop-holds c = search (needs, clear-start)
 
 -- src/read.rt:44:9
 mul-words : tie.Need-mul-words Inv-loop μ-loop
@@ -33,7 +36,7 @@ loop-less c = search needs
 
 -- src/read.rt:43:5
 loop-again : tie.Need-loop-again Inv-loop μ-loop
-loop-again c = search needs
+loop-again c = search (needs, clear-next)
 
 -- src/read.rt:39:1
 same-length : tie.Need-same-length Inv-loop μ-loop
@@ -41,7 +44,7 @@ same-length c = search needs
 
 -- src/read.rt:39:1
 returns : tie.Need-returns Inv-loop μ-loop
-returns c = search needs
+returns c = search (needs, clear-end)
 
 pub clear-spec : {M : Type 1} → statement M
 clear-spec =

@@ -1,3 +1,5 @@
+use borrow.Author.Tests.{eq-eqb}
+use Rattle.confstate.proofs.Fields.{beyond}
 use borrow.Author.Needs.{needs}
 use native.Mathlib.Omega.{arith}
 use Rattle.confstate.proofs.read.misnumbered.Statement.{statement}
@@ -7,11 +9,11 @@ use Rattle.confstate.proofs.read.misnumbered.Lts as lts
 
 -- src/read.rt:105:9
 returns : tie.Need-returns
-returns c = search needs
+returns c = rw (eq-eqb _ _ (c .if1 .taken))
 
 -- src/read.rt:101:1
 returns-2 : tie.Need-returns-2
-returns-2 c = search needs
+returns-2 c = beyond (c .before .args .number) (c .if1 .left)
 
 pub misnumbered-spec : {M : Type 1} → statement M
 misnumbered-spec = tie.close (tie.spec returns returns-2)

@@ -1,3 +1,8 @@
+use Prim.Native.Nat.{_-_}
+use mathlib.Core.Path.{sym, _∙_}
+use lib.ListN.{length, length-set}
+use Rattle.confstate.specs.Words.{listIn}
+use Rattle.confstate.proofs.Packing.{Packing, packing-start, packing-cut, packing-next, packing-over, value-within, over-within, packing-29, packing-30, packing-all}
 use borrow.Author.Needs.{needs}
 use native.Mathlib.Omega.{arith}
 use Rattle.confstate.proofs.read.packed.Statement.{statement}
@@ -8,10 +13,10 @@ use Rattle.confstate.proofs.read.store.Reads as store-reads
 use Rattle.wire.proofs.read_varint.Reads as read-varint-reads
 
 abbrev Inv-loop : tie.InvT-loop
-Inv-loop bytes list₀ n₀ over₀ p₀ list n over p = ?
+Inv-loop bytes list₀ n₀ over₀ p₀ list n over p = Packing bytes (listIn list₀ 0) (length (listIn list₀ 0)) list n over p
 
 abbrev μ-loop : tie.MeasureT-loop
-μ-loop bytes list₀ n₀ over₀ p₀ list n over p = ?
+μ-loop bytes list₀ n₀ over₀ p₀ list n over p = length bytes - p
 
 -- src/read.rt:221:17
 slice-read-n : tie.Need-slice-read-n Inv-loop μ-loop
@@ -19,7 +24,7 @@ slice-read-n c = search needs
 
 -- src/read.rt:224:5
 loop-holds : tie.Need-loop-holds Inv-loop μ-loop
-loop-holds c = search needs
+loop-holds c = packing-start (c .before .before .before .pre)
 
 -- src/read.rt:225:13
 read-varint-requires : tie.Need-read-varint-requires Inv-loop μ-loop
@@ -31,7 +36,7 @@ same-length c = search needs
 
 -- src/read.rt:227:13
 returns : tie.Need-returns Inv-loop μ-loop
-returns c = search needs
+returns c = packing-cut (c .before .before .before .before .loop .inv) (c .before .before .before .loop-test .taken) (c .before .before .read-varint .ensures) (c .if1 .taken)
 
 -- src/read.rt:231:13
 store-requires : tie.Need-store-requires Inv-loop μ-loop
@@ -39,23 +44,23 @@ store-requires c κs = search needs
 
 -- src/read.rt:232:13
 add-n : tie.Need-add-n Inv-loop μ-loop
-add-n c = search needs
+add-n c = omega (arith, c .before .before .before .before .before .before .before .before .before .before .loop .inv .bound, c .before .before .before .before .before .before .before .before .before .loop-test .taken)
 
 -- src/read.rt:224:5
 loop-less : tie.Need-loop-less Inv-loop μ-loop
-loop-less c = search needs
+loop-less c = omega (arith, value-within (c .before .before .before .before .before .before .before .before .before .before .loop .inv) (c .before .before .before .before .before .before .before .before .before .loop-test .taken) (c .before .before .before .before .before .before .before .before .read-varint .ensures) (c .before .before .before .before .if2 .taken) .0, value-within (c .before .before .before .before .before .before .before .before .before .before .loop .inv) (c .before .before .before .before .before .before .before .before .before .loop-test .taken) (c .before .before .before .before .before .before .before .before .read-varint .ensures) (c .before .before .before .before .if2 .taken) .1)
 
 -- src/read.rt:224:5
 loop-again : tie.Need-loop-again Inv-loop μ-loop
-loop-again c = search needs
+loop-again c = packing-next (c .before .before .before .before .before .before .before .before .before .before .loop .inv) (c .before .before .before .before .before .before .before .before .before .loop-test .taken) (c .before .before .before .before .before .before .before .before .read-varint .ensures) (c .before .before .before .before .if2 .taken) (c .before .before .store .ensures)
 
 -- src/read.rt:224:5
 loop-less-2 : tie.Need-loop-less-2 Inv-loop μ-loop
-loop-less-2 c = search needs
+loop-less-2 c = omega (arith, over-within (c .before .before .before .before .before .before .loop .inv) (c .before .before .before .before .before .loop-test .taken) (c .before .before .before .before .read-varint .ensures) (c .if2 .left) (c .before .before .if1 .left) .0, over-within (c .before .before .before .before .before .before .loop .inv) (c .before .before .before .before .before .loop-test .taken) (c .before .before .before .before .read-varint .ensures) (c .if2 .left) (c .before .before .if1 .left) .1)
 
 -- src/read.rt:224:5
 loop-again-2 : tie.Need-loop-again-2 Inv-loop μ-loop
-loop-again-2 c = search needs
+loop-again-2 c = packing-over (c .before .before .before .before .before .before .loop .inv) (c .before .before .before .before .before .loop-test .taken) (c .before .before .before .before .read-varint .ensures) (c .if2 .left) (c .before .before .if1 .left)
 
 -- src/read.rt:238:9
 same-length-2 : tie.Need-same-length-2 Inv-loop μ-loop
@@ -63,7 +68,7 @@ same-length-2 c = search needs
 
 -- src/read.rt:238:9
 returns-2 : tie.Need-returns-2 Inv-loop μ-loop
-returns-2 c = search needs
+returns-2 c = packing-29 (c .before .before .loop .inv) (c .before .loop-test .left) (c .if3 .taken)
 
 -- src/read.rt:241:9
 same-length-3 : tie.Need-same-length-3 Inv-loop μ-loop
@@ -71,7 +76,7 @@ same-length-3 c = search needs
 
 -- src/read.rt:241:9
 returns-3 : tie.Need-returns-3 Inv-loop μ-loop
-returns-3 c = search needs
+returns-3 c = packing-30 (c .before .before .before .loop .inv) (c .before .before .loop-test .left) (c .before .if3 .left) (c .if4 .taken)
 
 -- src/read.rt:243:5
 slice-write-list : tie.Need-slice-write-list Inv-loop μ-loop
@@ -79,11 +84,11 @@ slice-write-list c = search needs
 
 -- src/read.rt:217:1
 same-length-4 : tie.Need-same-length-4 Inv-loop μ-loop
-same-length-4 c = search needs
+same-length-4 c = length-set (c .before .before .before .loop .list) 64 (c .before .before .before .loop .n) ∙ (c .before .before .before .loop .inv .long ∙ sym (c .before .before .before .before .before .before .before .pre .long))
 
 -- src/read.rt:217:1
 returns-4 : tie.Need-returns-4 Inv-loop μ-loop
-returns-4 c = search needs
+returns-4 c = packing-all (c .before .before .before .loop .inv) (c .before .before .loop-test .left) (c .before .if3 .left) (c .if4 .left)
 
 pub packed-spec : {M : Type 1} → statement M
 packed-spec =

@@ -1,3 +1,4 @@
+use Rattle.confstate.proofs.Fields.{single-full, single-more}
 use borrow.Author.Needs.{needs}
 use Rattle.confstate.proofs.read.single.Statement.{statement}
 use Rattle.confstate.proofs.read.single.Tie as tie
@@ -10,7 +11,7 @@ slice-read-n c = search needs
 
 -- src/read.rt:209:9
 returns : tie.Need-returns
-returns c = search needs
+returns c = single-full (c .before .before .pre) (c .before .before .args .value) (c .if1 .taken)
 
 -- src/read.rt:211:5
 mul-list : tie.Need-mul-list
@@ -34,7 +35,7 @@ same-length c = search needs
 
 -- src/read.rt:203:1
 returns-2 : tie.Need-returns-2
-returns-2 c = search needs
+returns-2 c = single-more (c .before .before .pre) (c .before .before .args .value) (c .if1 .left)
 
 pub single-spec : {M : Type 1} → statement M
 single-spec =

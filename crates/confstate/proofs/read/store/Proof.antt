@@ -1,3 +1,4 @@
+use borrow.Author.Tests.{lt-ltb, le-ltb}
 use borrow.Author.Needs.{needs}
 use Rattle.confstate.proofs.read.store.Statement.{statement}
 use Rattle.confstate.proofs.read.store.Tie as tie
@@ -18,11 +19,11 @@ same-length c = search needs
 
 -- src/read.rt:248:1
 returns : tie.Need-returns
-returns c = search needs
+returns c = rw (lt-ltb _ _ (c .if1 .taken))
 
 -- src/read.rt:248:1
 returns-2 : tie.Need-returns-2
-returns-2 c = search needs
+returns-2 c = rw (le-ltb _ _ (c .if1 .left))
 
 pub store-spec : {M : Type 1} → statement M
 store-spec = tie.close (tie.spec mul-list slice-write-list same-length returns returns-2)

@@ -1,3 +1,8 @@
+use native.Mathlib.Omega.{arith}
+use Rattle.confstate.proofs.Fields.{misnumbered-no, misnumbered-some, past-5, varint-bad, varint-29, varint-go, lent-list, list-taken, flag-taken, unknown-taken}
+use Prim.Native.Nat.{_+_, _-_, _*_}
+use Rattle.rules.specs.Wire.{varint}
+use Rattle.confstate.specs.Words.{messageIn}
 use borrow.Author.Needs.{needs}
 use Rattle.confstate.proofs.read.varint_field.Statement.{statement}
 use Rattle.confstate.proofs.read.varint_field.Tie as tie
@@ -19,7 +24,7 @@ refused-requires c κs = search needs
 
 -- src/read.rt:117:9
 returns : tie.Need-returns
-returns c = search needs
+returns c = varint-bad (c .before .before .before .before .before .before .args .bytes .now) (c .before .before .before .before .before .before .args .at) (c .before .before .before .before .before .before .args .number) (messageIn (c .before .before .before .before .before .before .args .words .now)) (c .before .before .before .read-varint .ensures) _ _ (c .before .if1 .taken) (c .refused .ensures)
 
 -- src/read.rt:119:8
 misnumbered-requires : tie.Need-misnumbered-requires
@@ -31,11 +36,11 @@ refused-requires-2 c κs = search needs
 
 -- src/read.rt:120:9
 returns-2 : tie.Need-returns-2
-returns-2 c = search needs
+returns-2 c = varint-29 (c .before .before .before .before .before .before .before .before .args .bytes .now) (c .before .before .before .before .before .before .before .before .args .at) (c .before .before .before .before .before .before .before .before .args .number) (messageIn (c .before .before .before .before .before .before .before .before .args .words .now)) (c .before .before .before .before .before .read-varint .ensures) (c .before .before .before .if1 .left) _ _ (c .before .before .misnumbered .ensures) (c .before .if2 .taken) (c .refused2 .ensures)
 
 -- src/read.rt:123:23
 sub-k : tie.Need-sub-k
-sub-k c = search needs
+sub-k c = omega (arith, misnumbered-some (c .before .before .before .before .before .before .before .before .args .number) (c .before .before .misnumbered .ensures) (c .before .if2 .left))
 
 -- src/read.rt:123:17
 mul-k : tie.Need-mul-k
@@ -59,11 +64,11 @@ part-single-start c = search needs
 
 -- src/read.rt:125:36
 part-single-end : tie.Need-part-single-end
-part-single-end c = search needs
+part-single-end c = omega (arith, c .before .before .before .before .before .before .before .before .pre .long, c .if3 .taken, misnumbered-some (c .before .before .before .before .before .before .before .before .args .number) (c .before .before .misnumbered .ensures) (c .before .if2 .left))
 
 -- src/read.rt:125:20
 single-requires : tie.Need-single-requires
-single-requires c κs = search needs
+single-requires c κs = lent-list (c .before .before .before .before .before .before .before .before .before .pre) (c .before .before .before .before .before .before .before .before .before .args .number) (65 * (c .before .before .before .before .before .before .before .before .before .args .number - 1) + 65 - 65 * (c .before .before .before .before .before .before .before .before .before .args .number - 1)) (misnumbered-no (c .before .before .before .before .before .before .before .before .before .args .number) (c .before .before .before .misnumbered .ensures) (c .before .before .if2 .left)) (c .before .if3 .taken) (omega arith)
 
 -- src/read.rt:124:9
 same-length : tie.Need-same-length
@@ -71,7 +76,7 @@ same-length c = search needs
 
 -- src/read.rt:124:9
 returns-3 : tie.Need-returns-3
-returns-3 c = search needs
+returns-3 c = varint-go (c .before .before .before .before .before .before .before .before .before .before .before .before .args .bytes .now) (c .before .before .before .before .before .before .before .before .before .before .before .before .args .at) (c .before .before .before .before .before .before .before .before .before .before .before .before .args .number) (messageIn (c .before .before .before .before .before .before .before .before .before .before .before .before .args .words .now)) (c .before .before .before .before .before .before .before .before .before .read-varint .ensures) (c .before .before .before .before .before .before .before .if1 .left) _ _ (misnumbered-no (c .before .before .before .before .before .before .before .before .before .before .before .before .args .number) (c .before .before .before .before .before .before .misnumbered .ensures) (c .before .before .before .before .before .if2 .left)) (list-taken (c .before .before .before .before .before .before .before .before .before .before .before .before .pre) (c .before .before .before .before .before .before .before .before .before .before .before .before .args .number) (65 * (c .before .before .before .before .before .before .before .before .before .before .before .before .args .number - 1) + 65 - 65 * (c .before .before .before .before .before .before .before .before .before .before .before .before .args .number - 1)) _ _ (varint _) _ (misnumbered-no (c .before .before .before .before .before .before .before .before .before .before .before .before .args .number) (c .before .before .before .before .before .before .misnumbered .ensures) (c .before .before .before .before .before .if2 .left)) (c .before .before .before .before .if3 .taken) (omega arith) (c .before .before .single .ensures))
 
 -- src/read.rt:130:22
 flag-requires : tie.Need-flag-requires
@@ -87,11 +92,11 @@ same-length-2 c = search needs
 
 -- src/read.rt:131:9
 returns-4 : tie.Need-returns-4
-returns-4 c = search needs
+returns-4 c = varint-go (c .before .before .before .before .before .before .before .before .before .before .args .bytes .now) (c .before .before .before .before .before .before .before .before .before .before .args .at) (c .before .before .before .before .before .before .before .before .before .before .args .number) (messageIn (c .before .before .before .before .before .before .before .before .before .before .args .words .now)) (c .before .before .before .before .before .before .before .read-varint .ensures) (c .before .before .before .before .before .if1 .left) _ _ (misnumbered-no (c .before .before .before .before .before .before .before .before .before .before .args .number) (c .before .before .before .before .misnumbered .ensures) (c .before .before .before .if2 .left)) (flag-taken (c .before .before .before .before .before .before .before .before .before .before .pre) (c .before .before .before .before .before .before .before .before .before .before .args .number) _ _ _ (c .before .if4 .taken) (c .flag .ensures))
 
 -- src/read.rt:111:1
 returns-5 : tie.Need-returns-5
-returns-5 c = search needs
+returns-5 c = varint-go (c .before .before .before .before .before .before .before .before .before .args .bytes .now) (c .before .before .before .before .before .before .before .before .before .args .at) (c .before .before .before .before .before .before .before .before .before .args .number) (messageIn (c .before .before .before .before .before .before .before .before .before .args .words .now)) (c .before .before .before .before .before .before .read-varint .ensures) (c .before .before .before .before .if1 .left) _ _ (misnumbered-no (c .before .before .before .before .before .before .before .before .before .args .number) (c .before .before .before .misnumbered .ensures) (c .before .before .if2 .left)) (unknown-taken (c .before .before .before .before .before .before .before .before .before .pre) (c .before .before .before .before .before .before .before .before .before .args .number) _ _ (past-5 (c .before .if3 .left) (c .if4 .left)))
 
 pub varint-field-spec : {M : Type 1} → statement M
 varint-field-spec =
