@@ -12,6 +12,7 @@ use lib.Seq.{drop-cons}
 use Rattle.rules.specs.State.{ConfState}
 use Rattle.rules.specs.Wire.{groups, varintOf}
 use Rattle.rules.specs.Message.{Few64, packedOf, listField, flagField, encoded, overlong}
+use Rattle.rules.proofs.Sets.{or-left, or-right, and-left, and-right}
 use Rattle.rules.proofs.Wire.{groups-one, varint-length}
 use Rattle.rules.proofs.Packed.{packed-size}
 use Rattle.wire.proofs.Putting.{varint-size}
@@ -137,7 +138,7 @@ module _ {ws : List ℕ} (w : Writable ws) where
   unfolding messageIn
   block-4 = record { words = omega (arith, w .words); few = w .few .learnersNext }
 
--- ** Refusals
+-- ** Refusals, in the order of the tests
 
 pub is-conf-state : (ws : List ℕ) → length ws ≡ 261 → at ws 260 ≤ 1 → isConfState ws ≡ true
 unfolding isConfState
@@ -187,7 +188,7 @@ module _ (ws : List ℕ) (h : length ws ≡ 261) where
               let s : ltb 64 (length (listIn ws 195)) ≡ false = le-ltb 64 (length (listIn ws 195)) (omega (arith, count-few ws 195 (omega arith) e)) in
               rw (is-conf-state ws h k, short-1, short-2, short-3, s)
 
--- words that are not refused
+-- any number of a refusal is small
 pub refusal-few : (ws : List ℕ) → refusalOf ws ≤ 2
 unfolding refusalOf
 refusal-few ws = by (isConfState ws) (overlong (messageIn ws))
@@ -197,14 +198,7 @@ refusal-few ws = by (isConfState ws) (overlong (messageIn ws))
     by true false = omega arith
     by false o = omega arith
 
-or-left : (a b : Bool) → (a || b) ≡ false → a ≡ false
-or-left true b e = e
-or-left false b e = refl
-
-or-right : (a b : Bool) → (a || b) ≡ false → b ≡ false
-or-right true b e = cc
-or-right false b e = e
-
+-- words that are not refused
 few : (m : ConfState) → overlong m ≡ false → Few64 m
 unfolding overlong
 few m e =
@@ -220,19 +214,16 @@ few m e =
       learnersNext = ltb-false _ _ (or-right (p || q || r) _ e);
     }
 
-and-both : (a b : Bool) → (a && b) ≡ true → (a ≡ true) × (b ≡ true)
-and-both true b e = (refl, e)
-and-both false b e = (cc, cc)
-
 pub writable : {ws : List ℕ} {n : ℕ} → n ≡ refusalOf ws → n ≡ 0 → Writable ws
 unfolding refusalOf isConfState
 writable {ws} {n} e z = by (eqb (length ws) 261 && leb (at ws 260) 1) (overlong (messageIn ws)) refl refl (sym e ∙ z)
   where
-    by : (t o : Bool) → (eqb (length ws) 261 && leb (at ws 260) 1) ≡ t → overlong (messageIn ws) ≡ o → _≡_ {A = ℕ} (cond t (cond o 2 0) 1) 0 → Writable ws
+    by : (t o : Bool) → (eqb (length ws) 261 && leb (at ws 260) 1) ≡ t → overlong (messageIn ws) ≡ o
+        → _≡_ {A = ℕ} (cond t (cond o 2 0) 1) 0 → Writable ws
     by true true p q r = absurd (omega arith)
     by true false p q r = record {
-      words = eqb-true (length ws) 261 (and-both (eqb (length ws) 261) (leb (at ws 260) 1) p .0);
-      flag = leb-true (at ws 260) 1 (and-both (eqb (length ws) 261) (leb (at ws 260) 1) p .1);
+      words = eqb-true (length ws) 261 (and-left (eqb (length ws) 261) (leb (at ws 260) 1) p);
+      flag = leb-true (at ws 260) 1 (and-right (eqb (length ws) 261) (leb (at ws 260) 1) p);
       few = few (messageIn ws) q;
     }
     by false o p q r = absurd (omega arith)

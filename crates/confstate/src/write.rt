@@ -57,6 +57,7 @@ fn refusal(words: &[u64]) -> u64
     0
 }
 
+// How many bytes the numbers of the four lists take.
 fn count(words: &[u64]) -> Sizes
     requires { ⌜ Writable (now words) ⌝ }
     ensures { λ r. ⌜ r ≡ sizesOf (messageIn (now (words .entry))) ⌝ }
@@ -103,6 +104,7 @@ fn field_size(packed: usize) -> usize
     1 + wire::size(packed as u64) + packed
 }
 
+// How many bytes the message takes.
 fn total(s: Sizes, flag: u64) -> usize
     requires { ⌜ (s .voters ≤ 640) × (s .learners ≤ 640) × (s .outgoing ≤ 640) × (s .next ≤ 640) × (flag ≤ 1) ⌝ }
     ensures { λ r. ⌜ r ≡ totalOf s flag ⌝ }
