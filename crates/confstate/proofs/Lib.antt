@@ -4,3 +4,5 @@ pub mod Packing
 pub mod Fields
 pub mod Tags
 pub mod Answers
+pub mod Sizing
+pub mod Writing

@@ -5,9 +5,9 @@ ghost use lib.Dec.{eqb};
 ghost use lib.ListN.{length};
 ghost use Rattle.rules.specs.Message.{packedOf, listField, flagField, encoded};
 ghost use Rattle.text.specs.Put.{Put};
-ghost use Rattle.confstate.specs.Words.{messageIn};
+ghost use Rattle.confstate.specs.Words.{listIn, messageIn};
 ghost use Rattle.confstate.specs.Entries.{writeAnswer, writeLeaves};
-ghost use Rattle.confstate.specs.Sizes.{refusalOf, sizesOf, fieldSize, totalOf, Writable};
+ghost use Rattle.confstate.specs.Sizes.{refusalOf, sizesOf, fieldSize, totalOf, Writable, Block, Listable};
 
 // How many bytes the numbers of each list take.
 struct Sizes {
@@ -57,20 +57,26 @@ fn refusal(words: &[u64]) -> u64
     0
 }
 
+// How many bytes the numbers of the four lists take.
 fn count(words: &[u64]) -> Sizes
     requires { ⌜ Writable (now words) ⌝ }
     ensures { λ r. ⌜ r ≡ sizesOf (messageIn (now (words .entry))) ⌝ }
 {
-    let v = words[64] as usize;
-    let l = words[129] as usize;
-    let o = words[194] as usize;
-    let n = words[259] as usize;
     Sizes {
-        voters: packed_size(&words[0..v]),
-        learners: packed_size(&words[65..65 + l]),
-        outgoing: packed_size(&words[130..130 + o]),
-        next: packed_size(&words[195..195 + n]),
+        voters: list_size(words, 0),
+        learners: list_size(words, 65),
+        outgoing: list_size(words, 130),
+        next: list_size(words, 195),
     }
+}
+
+// How many bytes the numbers of the list at word k take.
+fn list_size(words: &[u64], k: usize) -> usize
+    requires { ⌜ Block (now words) k ⌝ }
+    ensures { λ r. ⌜ r ≡ length (packedOf (listIn (now (words .entry)) k)) ⌝ }
+{
+    let n = words[k + 64] as usize;
+    packed_size(&words[k..k + n])
 }
 
 // How many bytes the numbers take, one after the other.
@@ -98,6 +104,7 @@ fn field_size(packed: usize) -> usize
     1 + wire::size(packed as u64) + packed
 }
 
+// How many bytes the message takes.
 fn total(s: Sizes, flag: u64) -> usize
     requires { ⌜ (s .voters ≤ 640) × (s .learners ≤ 640) × (s .outgoing ≤ 640) × (s .next ≤ 640) × (flag ≤ 1) ⌝ }
     ensures { λ r. ⌜ r ≡ totalOf s flag ⌝ }
@@ -114,28 +121,25 @@ fn put_message(out: &mut [u8], s: Sizes, words: &[u64]) -> usize
     requires { ⌜ Writable (now words) × (s ≡ sizesOf (messageIn (now words))) × (length (encoded (messageIn (now words))) ≤ length (now out)) ⌝ }
     ensures { λ r. ⌜ Put (now (out .entry)) 0 (encoded (messageIn (now (words .entry)))) (now (out .exit)) r ⌝ }
 {
-    let v = words[64] as usize;
-    let l = words[129] as usize;
-    let o = words[194] as usize;
-    let n = words[259] as usize;
-    let a = put_list(out, 0, 1, s.voters, &words[0..v]);
-    let b = put_list(out, a, 2, s.learners, &words[65..65 + l]);
-    let c = put_list(out, b, 3, s.outgoing, &words[130..130 + o]);
-    let d = put_list(out, c, 4, s.next, &words[195..195 + n]);
+    let a = put_list(out, 0, 1, s.voters, words, 0);
+    let b = put_list(out, a, 2, s.learners, words, 65);
+    let c = put_list(out, b, 3, s.outgoing, words, 130);
+    let d = put_list(out, c, 4, s.next, words, 195);
     put_flag(out, d, words[260])
 }
 
-// The field of a list: its tag, the length, the numbers. An empty list has none.
-fn put_list(out: &mut [u8], at: usize, number: u8, packed: usize, ids: &[u64]) -> usize
-    requires { ⌜ (number < 16) × (packed ≡ length (packedOf (now ids))) × (length (now ids) ≤ 64) × (at + length (listField number (now ids)) ≤ length (now out)) ⌝ }
-    ensures { λ r. ⌜ Put (now (out .entry)) at (listField number (now (ids .entry))) (now (out .exit)) r ⌝ }
+// The field of the list at word k: its tag, the length, the numbers. An empty list has none.
+fn put_list(out: &mut [u8], at: usize, number: u8, packed: usize, words: &[u64], k: usize) -> usize
+    requires { ⌜ Listable number at packed (now words) k (length (now out)) ⌝ }
+    ensures { λ r. ⌜ Put (now (out .entry)) at (listField number (listIn (now (words .entry)) k)) (now (out .exit)) r ⌝ }
 {
     if packed == 0 {
         return at;
     }
     out[at] = 8 * number + 2;
     let p = wire::put_varint(out, at + 1, packed as u64);
-    put_packed(out, p, ids)
+    let n = words[k + 64] as usize;
+    put_packed(out, p, &words[k..k + n])
 }
 
 // The numbers one after the other.
