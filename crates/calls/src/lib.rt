@@ -1,5 +1,5 @@
-// One call on any state, in bytes, and one question about a box, in words: docs/EMBEDDING.md has the layout. This is how another language embeds the
-// library, and how it is compared with the Rust.
+// One call on any state, in bytes; one question about a box, in words; and ConfState as it travels: docs/EMBEDDING.md has the layout. This is how another
+// language embeds the library, and how it is compared with the Rust.
 use crate::read::ChangeList;
 use changer::Answer;
 use tracker::ChangeLog;
@@ -12,6 +12,7 @@ ghost use mathlib.Core.Path.{_≡_};
 ghost use Prim.Native.Nat.{min};
 ghost use lib.ListN.{length};
 ghost use Rattle.tracker.specs.ConfStates.{writtenOf};
+ghost use Rattle.confstate.specs.Entries.{readAnswer, readLeaves, writeAnswer, writeLeaves};
 ghost use Rattle.calls.specs.Call.{fromVerdict, fromAnswer, fromOutcome, fromWritten, reply as replyOf, noLog, noLists, askIn, restoredIn, replyTo, callAnswer, callLeaves};
 ghost use Rattle.calls.specs.Unplugs.{unplugAnswer, unplugLeaves};
 
@@ -70,6 +71,24 @@ pub extern "C" fn dimecandle_unplug(state: &[u64], id: u64, verdict: &mut [u64])
     verdict[0] = told.number;
     verdict[1] = told.id;
     0
+}
+
+// A ConfState read from its bytes into the words of a CONFSTATE: 0; or 28, 29, 30, and four empty lists and a false flag. The words after them are kept.
+// Less than 261 words: 100, and they are as they were.
+#[no_mangle]
+pub extern "C" fn dimecandle_read_conf_state(bytes: &[u8], conf_state: &mut [u64]) -> u64
+    ensures { λ r. ⌜ (r ≡ readAnswer (now (bytes .entry)) (length (now («conf_state» .entry)))) × (now («conf_state» .exit) ≡ readLeaves (now (bytes .entry)) (now («conf_state» .entry))) ⌝ }
+{
+    confstate::read::read(bytes, conf_state)
+}
+
+// A ConfState written from the words of a CONFSTATE to the front of `bytes`: its length, and the bytes after it are kept. Else 2^32 and the refusal, 1, 2 or
+// 31, and the bytes are as they were.
+#[no_mangle]
+pub extern "C" fn dimecandle_write_conf_state(conf_state: &[u64], bytes: &mut [u8]) -> u64
+    ensures { λ r. ⌜ (r ≡ writeAnswer (now («conf_state» .entry)) (length (now (bytes .entry)))) × (now (bytes .exit) ≡ writeLeaves (now («conf_state» .entry)) (now (bytes .entry))) ⌝ }
+{
+    confstate::write::write(conf_state, bytes)
 }
 
 fn reply_to(s: &[u8]) -> Reply
