@@ -8,12 +8,14 @@ use borrow.Author.Tests.{le-leb, lt-ltb, ltb-true, ltb-false, ne-eqb}
 use lib.Dec.{ltb}
 use lib.ListN.{length, length-append}
 use lib.Seq.{drop-append-seam, take-append-seam}
-use Rattle.rules.specs.State.{ConfState}
-use Rattle.rules.specs.Apply.{noConfState}
+use Rattle.rules.specs.State.{ConfState, State, formed}
+use Rattle.rules.specs.Apply.{noConfState, toConfState}
 use Rattle.rules.specs.Wire.{found, Payload, varint, bytes, payloadIn, Field, fieldIn, row, groups, varintOf, tagOf, lengthField}
 use Rattle.rules.specs.Message.{Few64, Below, Below64, taken, withVoters, withLearners, withOutgoing, withNext, withFlag, entered, readRow, read, messageRead, packedOf, listField, flagField, encoded}
 use Rattle.rules.proofs.Wire.{groups-one, groups-more, varint-back}
 use Rattle.rules.proofs.Packed.{numbers-back, packed-size}
+use Rattle.rules.proofs.Formed.{whole-of}
+use Rattle.rules.proofs.Lists64.{few-none}
 use Rattle.rules.proofs.MessageFirst.{row-end, row-first}
 
 -- ** A field that was written
@@ -201,3 +203,15 @@ encoded-length m s =
       list-length 4 (m .learnersNext) (omega arith) (s .learnersNext),
       flag-length (m .autoLeave),
     ))
+
+-- ** A configuration that travels
+
+few-written : (s : State) (b : Bool) → formed s ≡ b → Few64 (toConfState s .confState)
+unfolding toConfState
+few-written s true h =
+    let w = whole-of s h .sets in
+    rw h (record { voters = w .incoming .few; learners = w .learners .few; votersOutgoing = w .outgoing .few; learnersNext = w .staged .few })
+few-written s false h = rw h few-none
+
+pub travels : (s : State) → Below64 (toConfState s .confState) → read (encoded (toConfState s .confState)) ≡ taken (toConfState s .confState)
+travels s b = read-encoded (toConfState s .confState) (few-written s (formed s) refl) b

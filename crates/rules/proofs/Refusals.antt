@@ -10,7 +10,7 @@ use lib.ListN.{length, take, drop}
 use Rattle.rules.specs.State.{ConfState}
 use Rattle.rules.specs.Apply.{noConfState}
 use Rattle.rules.specs.Wire.{Front, cut, num, front, Found, bad, found, fits, judged, varintIn, Payload, varint, fixed, bytes, single, fixedIn, lengthIn, payloadIn, Field, numbered, held, tagged, fieldIn, Row, end, fault, next, onward, rowOf, row}
-use Rattle.rules.specs.Message.{Numbers, faulty, all, fronts, lower, before, gathered, packed, numbers, grown, Read, refused, taken, withVoters, withLearners, withOutgoing, withNext, listed, flagged, entered, goOn, readRow, read, numberRead}
+use Rattle.rules.specs.Message.{Answered, accepted, cut-short, malformed, too-many, Numbers, faulty, all, fronts, lower, before, gathered, packed, numbers, grown, Read, refused, taken, withVoters, withLearners, withOutgoing, withNext, listed, flagged, entered, goOn, readRow, read, numberRead}
 
 -- ** The numbers of a refusal
 
@@ -211,12 +211,6 @@ pub read-named : (l : List ℕ) {e : ℕ} → read l ≡ refused e → Named e
 read-named l h = subst InRead h (in-read l)
 
 -- the number answered is 0, or 28, 29 or 30
-pub data Answered (e : ℕ) : Type 0 where
-  accepted : e ≡ 0 → Answered e
-  cut-short : e ≡ 28 → Answered e
-  malformed : e ≡ 29 → Answered e
-  too-many : e ≡ 30 → Answered e
-
 answered : (e : ℕ) → Named e → Answered e
 answered e h = by (eqb e 28) refl (eqb e 29) refl
   where

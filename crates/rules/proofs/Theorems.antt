@@ -15,13 +15,15 @@ use Rattle.rules.specs.Table.{placesIn}
 use Rattle.rules.specs.Changes.{pendingTracked, Work, done, change}
 use Rattle.rules.specs.Calls.{listOf, simple, enterJoint, gone, leaveJoint, leaving, removals}
 use Rattle.rules.specs.Idle.{enterIdles, enterWorks, simpleIdles, simpleWorks}
-use Rattle.rules.specs.Apply.{applyConf}
+use Rattle.rules.specs.Apply.{applyConf, toConfState}
 use Rattle.rules.specs.Restore.{Step, simpleStep, enterStep, leaveStep}
 use Rattle.rules.specs.Sequences.{Call, perform, afterCalls}
 use Rattle.rules.specs.Boxes.{naming}
 use Rattle.rules.specs.Unplug.{quick, straight, unplug}
 use Rattle.rules.specs.Quorum.{CallsShare, Group, SequenceShares, quorum}
 use Rattle.rules.specs.Rust.{byKind}
+use Rattle.rules.specs.Wire.{Field, found, fieldIn, row}
+use Rattle.rules.specs.Message.{Few64, Below64, Answered, refused, taken, entered, readRow, read, numberRead, encoded}
 use Rattle.rules.specs.Demands.{AltersItsOwn, AsTheRust, ComesBack, EmptyComesBack, Kept, Whole}
 use Rattle.rules.proofs.Changes.{Fine}
 use Rattle.rules.proofs.Steps.{Ordered}
@@ -36,6 +38,10 @@ use Rattle.rules.proofs.Table.{change-agrees}
 use Rattle.rules.proofs.Rust.{alters-its-own, as-the-rust, only-its-own}
 use Rattle.rules.proofs.Thirteen.{check-never-13, call-never-13}
 use Rattle.rules.proofs.Unplug.{unplug-quick, unplug-straight}
+use Rattle.rules.proofs.Refusals.{accepted-or-named}
+use Rattle.rules.proofs.Lists64.{read-few}
+use Rattle.rules.proofs.MessageFirst.{fault-stays, read-append, whole-fault-stays}
+use Rattle.rules.proofs.MessageBack.{encoded-length, encoded-one, read-encoded, travels}
 use Rattle.rules.proofs.Empty.{empty-back}
 use Rattle.rules.proofs.RoundTrip.{empty-trip, fresh-in-order, order-trip, round-trip}
 
@@ -164,6 +170,43 @@ neighbours-share-throughout = sequence-shares
 -- "with an incoming voter before the call": without one no group is a quorum, and there is nothing to share
 pub no-voter-no-quorum : (c : Conf) → isEmpty (c .incoming) ≡ true → (g : Group) → quorum g c ≡ false
 no-voter-no-quorum = voterless
+
+-- ** ConfState as it travels: document 02, k)
+
+-- "reading it gives the same four lists and flag"
+pub message-comes-back : (m : ConfState) → Few64 m → Below64 m → read (encoded m) ≡ taken m
+message-comes-back = read-encoded
+
+-- "The writer has one encoding for each message", and no encoding is that of two
+pub one-message-each : (m n : ConfState) → Few64 m → Below64 m → Few64 n → Below64 n → encoded m ≡ encoded n → m ≡ n
+one-message-each = encoded-one
+
+-- the longest message
+pub message-fits : (m : ConfState) → Few64 m → length (encoded m) ≤ 2574
+message-fits = encoded-length
+
+-- a configuration written out, written to bytes and read is the one that was written out
+pub configuration-travels : (s : State) → Below64 (toConfState s .confState) → read (encoded (toConfState s .confState)) ≡ taken (toConfState s .confState)
+configuration-travels = travels
+
+-- what is accepted has at most 64 ids in each list
+pub at-most-64 : (l : List ℕ) {m : ConfState} → read l ≡ taken m → Few64 m
+at-most-64 = read-few
+
+-- any bytes are accepted, or refused with 28, 29 or 30
+pub accepted-or-refused : (l : List ℕ) → Answered (numberRead (read l))
+accepted-or-refused = accepted-or-named
+
+-- "The first faulty field wins": 29 and 30 stay, whatever follows; and so does 28 where the faulty field is whole, a packed number past its end
+pub fault-is-told : (a b : List ℕ) {e : ℕ} → read a ≡ refused e → (e ≡ 28 → ⊥) → read (a ++ b) ≡ refused e
+fault-is-told = fault-stays
+
+pub whole-fault-is-told : (a c b : List ℕ) {m : ConfState} {f : Field} {n e : ℕ} → read a ≡ taken m → fieldIn c ≡ found f n → entered f m ≡ refused e → read (a ++ (c ++ b)) ≡ refused e
+whole-fault-is-told = whole-fault-stays
+
+-- a message is its parts one after the other
+pub parts-in-turn : (a b : List ℕ) {m : ConfState} → read a ≡ taken m → read (a ++ b) ≡ readRow (row b) m
+parts-in-turn = read-append
 
 -- ** The demands
 

@@ -1,5 +1,6 @@
 -- ConfState as it travels: document 02, k). Assumes nothing.
 use Prim.Native.Nat.{ℕ, _-_, _^_, _≤_, _<_}
+use mathlib.Core.Path.{_≡_}
 use mathlib.Core.Bool.{Bool, true, false, _||_, not, cond}
 use mathlib.Core.List.{List, [], _∷_, _++_}
 use lib.Dec.{eqb, leb, ltb}
@@ -117,6 +118,13 @@ read l = readRow (row l) noConfState
 abbrev pub numberRead : Read → ℕ
 numberRead (refused e) = e
 numberRead (taken m) = 0
+
+-- 0, or one of the three refusals
+pub data Answered (e : ℕ) : Type 0 where
+  accepted : e ≡ 0 → Answered e
+  cut-short : e ≡ 28 → Answered e
+  malformed : e ≡ 29 → Answered e
+  too-many : e ≡ 30 → Answered e
 
 -- "A refused reader gives empty lists and a false flag"
 abbrev pub messageRead : Read → ConfState
