@@ -13,9 +13,8 @@ use Rattle.rules.specs.State.{ConfState}
 use Rattle.rules.specs.Wire.{groups, varintOf}
 use Rattle.rules.specs.Message.{Few64, packedOf, listField, flagField, encoded, overlong}
 use Rattle.rules.proofs.Sets.{or-left, or-right, and-left, and-right}
-use Rattle.rules.proofs.Wire.{groups-one, varint-length}
+use Rattle.rules.proofs.Wire.{groups-one, varint-length, varint-some}
 use Rattle.rules.proofs.Packed.{packed-size}
-use Rattle.wire.proofs.Putting.{varint-size}
 use Rattle.confstate.specs.Words.{at, listIn, messageIn, isConfState}
 use Rattle.confstate.specs.declared.write.Sizes.{Sizes}
 use Rattle.confstate.specs.Sizes.{refusalOf, Writable, Block, sizesOf, fieldSize, totalOf}
@@ -57,7 +56,7 @@ module _ {xs : List ℕ} {n i : ℕ} (s : Counting xs n i) where
 pub list-none : (f : ℕ) (xs : List ℕ) → length (packedOf xs) ≡ 0 → listField f xs ≡ []
 unfolding listField packedOf
 list-none f [] e = refl
-list-none f (x ∷ xs) e = absurd (omega (arith, length-append (varintOf x) (packedOf xs), varint-size x .0))
+list-none f (x ∷ xs) e = absurd (omega (arith, length-append (varintOf x) (packedOf xs), varint-some x))
 
 pub list-some : (f : ℕ) (xs : List ℕ) → (length (packedOf xs) ≡ 0 → ⊥) → f < 16
     → listField f xs ≡ (8 * f + 2) ∷ (varintOf (length (packedOf xs)) ++ packedOf xs)

@@ -29,6 +29,9 @@ list-length xs h = ap length (apart xs) ∙ (length-append (xs ++ replicate (64 
 pub list-count : (xs : List ℕ) → length xs ≤ 64 → getD (listWords xs) 64 0 ≡ length xs
 list-count xs h = ap (λ (l : List ℕ). getD l 64 0) (apart xs) ∙ getD-at (xs ++ replicate (64 - length xs) 0) (length xs) [] 0 64 (places xs h)
 
+pub list-places : (xs : List ℕ) → length xs ≤ 64 → take 64 (listWords xs) ≡ xs ++ replicate (64 - length xs) 0
+list-places xs h = ap (take 64) (apart xs) ∙ take-at (xs ++ replicate (64 - length xs) 0) (length xs ∷ []) 64 (places xs h)
+
 pub list-back : (xs : List ℕ) → length xs ≤ 64 → listIn (listWords xs) 0 ≡ xs
 unfolding listIn listWords
 list-back xs h =
@@ -154,13 +157,14 @@ flag-back : (b : Bool) → eqb (flagWord b) 1 ≡ b
 flag-back true = refl
 flag-back false = refl
 
--- a list read off a block that stands at k
+-- a list read off a block that stands at k: its count, and its ids
+pub count-at : (ws xs : List ℕ) (k : ℕ) → length xs ≤ 64 → take 65 (drop k ws) ≡ listWords xs → getD ws (k + 64) 0 ≡ length xs
+count-at ws xs k h e = sym (getD-drop k ws 64 0) ∙ (sym (getD-take 65 (drop k ws) 64 0 (omega arith)) ∙ (ap (λ (l : List ℕ). getD l 64 0) e ∙ list-count xs h))
+
 list-at : (ws xs : List ℕ) (k : ℕ) → length xs ≤ 64 → take 65 (drop k ws) ≡ listWords xs → listIn ws k ≡ xs
 unfolding listIn
 list-at ws xs k h e =
-    let n : getD ws (k + 64) 0 ≡ length xs
-    = sym (getD-drop k ws 64 0) ∙ (sym (getD-take 65 (drop k ws) 64 0 (omega arith)) ∙ (ap (λ (l : List ℕ). getD l 64 0) e ∙ list-count xs h)) in
-    ap (λ (c : ℕ). take c (drop k ws)) n ∙ (sym (take-take (length xs) 65 (drop k ws) (omega arith)) ∙ (ap (take (length xs)) e ∙ front-of xs))
+    ap (λ (c : ℕ). take c (drop k ws)) (count-at ws xs k h e) ∙ (sym (take-take (length xs) 65 (drop k ws) (omega arith)) ∙ (ap (take (length xs)) e ∙ front-of xs))
 
 -- the list of a field's number, and the message with another one there
 abbrev pub listOf : ℕ → ConfState → List ℕ
@@ -219,7 +223,7 @@ module _ (m : ConfState) (few : Few64 m) where
   unfolding confStateWords
   flag-set b = row-flag-set (listWords (m .voters)) (listWords (m .learners)) (listWords (m .votersOutgoing)) (listWords (m .learnersNext)) (flagWord (m .autoLeave)) la lb lc ld (flagWord b)
 
-  words-flag : getD (confStateWords m) 260 0 ≡ flagWord (m .autoLeave)
+  pub words-flag : getD (confStateWords m) 260 0 ≡ flagWord (m .autoLeave)
   unfolding confStateWords
   words-flag = row-flag (listWords (m .voters)) (listWords (m .learners)) (listWords (m .votersOutgoing)) (listWords (m .learnersNext)) (flagWord (m .autoLeave)) la lb lc ld
 

@@ -163,7 +163,7 @@ front-groups (suc k) n rest h = go (front-groups k (n / 128) rest (groups-less k
         let e : 128 + n % 128 - 128 + 128 * (n / 128) ≡ n = omega (arith, mod-add-div n 128) in
         rw (groups-more (suc k) n d) (front-more (128 + n % 128) (groups (suc k) (n / 128) ++ rest) (omega arith) ∙ rw (r, e))
 
-groups-length : (k n : ℕ) → length (groups k n) ≤ k
+pub groups-length : (k n : ℕ) → length (groups k n) ≤ k
 unfolding groups
 groups-length zero n = omega arith
 groups-length (suc k) n = go (groups-length k (n / 128)) (ltb n 128)
@@ -172,6 +172,19 @@ groups-length (suc k) n = go (groups-length k (n / 128)) (ltb n 128)
     go r true = omega arith
     go r false = omega arith
 
+-- one at least
+pub groups-some : (k n : ℕ) → 0 < length (groups (suc k) n)
+unfolding groups
+groups-some k n = by (ltb n 128)
+  where
+    by : (t : Bool) → 0 < length (cond t (n ∷ []) ((128 + n % 128) ∷ groups k (n / 128)))
+    by true = omega arith
+    by false = omega arith
+
+pub varint-some : (n : ℕ) → 0 < length (varintOf n)
+unfolding varintOf
+varint-some n = groups-some 9 n
+
 pub varint-length : (n : ℕ) → length (varintOf n) ≤ 10
 unfolding varintOf
 varint-length n = groups-length 10 n
@@ -179,7 +192,3 @@ varint-length n = groups-length 10 n
 pub varint-back : (n : ℕ) (rest : List ℕ) → n < 2 ^ 64 → varintIn (varintOf n ++ rest) ≡ found n (length (varintOf n))
 unfolding varintIn varintOf
 varint-back n rest h = rw (front-groups 9 n rest (omega arith), fits-yes n (length (groups 10 n)) (groups-length 10 n) h)
-
-pub varint-size : (n : ℕ) → n < 2 ^ 64 → 0 < length (varintOf n)
-unfolding varintOf
-varint-size n h = front-within (groups 10 n ++ []) (front-groups 9 n [] (omega arith)) .0

@@ -8,7 +8,7 @@ use lib.ListN.{length, drop}
 use Rattle.rules.specs.Wire.{Front, cut, num, front, fits, Found, bad, found, judged, varintIn}
 use Rattle.wire.specs.Varints.{placed, varintAt}
 use Rattle.wire.specs.declared.Varint.{Varint}
-use Rattle.wire.proofs.Fronts.{front-within}
+use Rattle.rules.proofs.Wire.{front-within}
 use Rattle.wire.proofs.Reading.{fitted}
 
 -- by what stands there: a fault, a number, one that does not fit

@@ -9,6 +9,7 @@ use borrow.Author.Tests.{lt-ltb, le-ltb, le-leb, lt-leb}
 use lib.Dec.{leb, ltb}
 use lib.ListN.{length, drop, getD, drop-of-length-le}
 use lib.Seq.{drop-cons}
+use Rattle.rules.proofs.Wire.{front-one}
 use Rattle.rules.specs.Wire.{Front, cut, num, more, front, fits}
 use Rattle.wire.specs.Varints.{past}
 
@@ -18,8 +19,7 @@ unfolding front
 front-none l p h = rw (drop-of-length-le l h)
 
 pub front-last : (l : List ℕ) (p : ℕ) → p < length l → getD l p 0 < 128 → front (drop p l) ≡ num (getD l p 0) 1
-unfolding front
-front-last l p h k = rw (drop-cons l p 0 h, front, lt-ltb _ _ k)
+front-last l p h k = ap front (drop-cons l p 0 h) ∙ front-one (getD l p 0) (drop (suc p) l) k
 
 pub front-more : (l : List ℕ) (p : ℕ) → p < length l → 128 ≤ getD l p 0 → front (drop p l) ≡ more (getD l p 0 - 128) (front (drop (p + 1) l))
 unfolding front
@@ -40,7 +40,7 @@ past-zero (b ∷ bs) p e = go (past-zero bs (p + 1)) (ltb b 128) e
     go r true e = absurd (omega (arith, e))
     go r false e = ap (more (b - 128)) (r (sym (past-more p (b - 128) (front bs)) ∙ e))
 
--- how many bytes it takes: one at least, and none but those that are there
+-- how many bytes it takes: none but those that are there
 abbrev pub width : Front → ℕ
 width cut = 0
 width (num v n) = n
@@ -58,21 +58,7 @@ width-within (b ∷ bs) = by (width-within bs) (ltb b 128)
     by r true = omega arith
     by r false = omega (arith, width-more (b - 128) (front bs))
 
-front-some : (l : List ℕ) {v : ℕ} (n : ℕ) → front l ≡ num v n → 0 < n
-front-some l zero e =
-    let c : front l ≡ cut = past-zero l 0 (ap (past 0) e) in
-    let x : _≡_ {A = ℕ} 0 1 = ap (past 1) (sym c ∙ e) in
-    absurd (omega arith)
-front-some l (suc n) e = omega arith
-
-pub front-within : (l : List ℕ) {v n : ℕ} → front l ≡ num v n → (0 < n) × (n ≤ length l)
-front-within l {v} {n} e = (front-some l n e, omega (arith, width-within l, ap width e))
-
 -- whether it fits
-pub fits-yes : (v n : ℕ) → n ≤ 10 → v < 2 ^ 64 → fits v n ≡ true
-unfolding fits
-fits-yes v n h k = rw (le-leb _ _ h, lt-ltb _ _ k)
-
 pub fits-long : (v n : ℕ) → 10 < n → fits v n ≡ false
 unfolding fits
 fits-long v n h = rw (lt-leb _ _ h)

@@ -3,7 +3,6 @@ use Prim.Native.Nat.{ℕ, zero, suc, _+_, _/_, _%_, _^_, _≤_, _<_}
 use mathlib.Core.Path.{_≡_, refl, ap, sym, _∙_}
 use mathlib.Core.Bool.{Bool, true, false, cond}
 use mathlib.Core.List.{List, [], _∷_}
-use native.Mathlib.Nat.{pow-suc, div-lt-iff-lt-mul}
 use native.Mathlib.Numerals.{add-one}
 use native.Mathlib.Omega.{arith}
 use borrow.Author.Tests.{lt-ltb, le-ltb}
@@ -12,37 +11,7 @@ use lib.ListN.{length, set}
 use lib.Seq.{sets, length-sets}
 use Rattle.text.specs.Put.{Put, last}
 use Rattle.rules.specs.Wire.{groups, varintOf}
-
--- the bytes of a number, by the first
-groups-one : (k n : ℕ) → n < 128 → groups (suc k) n ≡ n ∷ []
-unfolding groups
-groups-one k n h = rw (lt-ltb _ _ h)
-
-groups-more : (k n : ℕ) → 128 ≤ n → groups (suc k) n ≡ (128 + n % 128) ∷ groups k (n / 128)
-unfolding groups
-groups-more k n h = rw (le-ltb _ _ h)
-
--- how many they are
-groups-some : (k n : ℕ) → 0 < length (groups (suc k) n)
-unfolding groups
-groups-some k n = by (ltb n 128)
-  where
-    by : (t : Bool) → 0 < length (cond t (n ∷ []) ((128 + n % 128) ∷ groups k (n / 128)))
-    by true = omega arith
-    by false = omega arith
-
-groups-few : (k n : ℕ) → length (groups k n) ≤ k
-unfolding groups
-groups-few zero n = omega arith
-groups-few (suc k) n = by (groups-few k (n / 128)) (ltb n 128)
-  where
-    by : length (groups k (n / 128)) ≤ k → (t : Bool) → length (cond t (n ∷ []) ((128 + n % 128) ∷ groups k (n / 128))) ≤ suc k
-    by r true = omega arith
-    by r false = omega arith
-
-pub varint-size : (n : ℕ) → (0 < length (varintOf n)) × (length (varintOf n) ≤ 10)
-unfolding varintOf
-varint-size n = (groups-some 9 n, groups-few 10 n)
+use Rattle.rules.proofs.Wire.{groups-one, groups-more, groups-less, groups-some, varint-length}
 
 -- the bytes that a loop has still to come to, of a number m that is left
 pub record Left (m : ℕ) (bytes : List ℕ) : Type 0 where
@@ -66,7 +35,7 @@ left-more {m} {l} s h = by (s .fuel) (s .enough) (s .those)
     by : (k : ℕ) → m < 128 ^ suc k → l ≡ groups (suc k) m → (r : List ℕ) × (Left (m / 128) r × (l ≡ (128 + m % 128) ∷ r))
     by zero e t = absurd (omega arith)
     by (suc k) e t =
-        let d : m / 128 < 128 ^ suc k = div-lt-iff-lt-mul {k = 128} (omega arith) .1 (rw (← pow-suc) e) in
+        let d : m / 128 < 128 ^ suc k = groups-less k m e in
         (groups (suc k) (m / 128), (record { fuel = k; enough = d; those = refl }, t ∙ groups-more (suc k) m h))
 
 -- the loop that counts the bytes of n has come to the k-th
@@ -80,7 +49,7 @@ count-start {n} h = record { rest = varintOf n; left = left-all n h; count = ome
 
 module _ {n k m : ℕ} (s : Counting n k m) where
   pub count-few : k ≤ 10
-  count-few = omega (arith, s .count, left-some (s .left), varint-size n .1)
+  count-few = omega (arith, s .count, left-some (s .left), varint-length n)
 
   pub count-next : 128 ≤ m → Counting n (k + 1) (m / 128)
   count-next h =

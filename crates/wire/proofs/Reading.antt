@@ -14,7 +14,8 @@ use lib.Seq.{take-all}
 use Rattle.rules.specs.Wire.{Front, cut, num, more, front, fits}
 use Rattle.wire.specs.Varints.{placed, varintAt, after, tenthAt, past, endOf}
 use Rattle.wire.specs.declared.Varint.{Varint}
-use Rattle.wire.proofs.Fronts.{front-none, front-last, front-more, past-more, past-zero, width, width-within, front-within, fits-yes, fits-long, fits-large}
+use Rattle.wire.proofs.Fronts.{front-none, front-last, front-more, past-more, past-zero, width, width-within, fits-long, fits-large}
+use Rattle.rules.proofs.Wire.{front-within, fits-yes}
 
 -- the three that a reader makes
 abbrev pub cutAt : ℕ → Varint
