@@ -86,8 +86,8 @@ pub fn run(seed: u64) -> bool {
 fn groups(tally: &mut Tally, seed: u64) -> Result<(), String> {
     let mut random = Random::new(seed);
     let messages: Vec<Message> = (0..MESSAGES).map(|_| random.message()).collect();
-    written_by_ours(tally, &messages);
-    written_by_others(tally, &messages)?;
+    let written = written_by_ours(tally, &messages);
+    written_by_others(tally, &messages, &written)?;
     made_by_hand(tally, &mut random, &messages);
     cut(tally, &mut random, &messages)?;
     shortest_strings(tally);
@@ -97,15 +97,44 @@ fn groups(tally: &mut Tally, seed: u64) -> Result<(), String> {
 
 // ** Every message, both ways
 
-/// Where the writer refuses there are no bytes, and these are not the message's.
-fn written(message: &Message) -> Vec<u8> {
-    ours::write(message).unwrap_or_else(|words| words.into_bytes())
+fn written_by_ours(tally: &mut Tally, messages: &[Message]) -> Vec<Vec<u8>> {
+    let mut group = Group::new("written by ours, each");
+    let mut all = vec![];
+    for message in messages {
+        let written = ours::write(message);
+        group.holds(&[], written.is_ok(), || format!("({message}): {written:?}"));
+        all.push(written.unwrap_or_default());
+    }
+    tally.add(group);
+    read_by(rust_protobuf::read, tally, "written by ours, read by rust-protobuf", &all, messages);
+    read_by_protoc(tally, "written by ours, read by protoc", &all, messages);
+    all
 }
 
-fn written_by_ours(tally: &mut Tally, messages: &[Message]) {
-    let written: Vec<Vec<u8>> = messages.iter().map(written).collect();
-    read_by_rust(tally, "written by ours, read by rust-protobuf", &written, messages);
-    read_by_protoc(tally, "written by ours, read by protoc", &written, messages);
+fn written_by_others(tally: &mut Tally, messages: &[Message], by_ours: &[Vec<u8>]) -> Result<(), String> {
+    let single: Vec<Vec<u8>> = messages.iter().map(rust_protobuf::write).collect();
+    read_by(ours::read, tally, "written by rust-protobuf, read by ours", &single, messages);
+    let mut group = Group::new("written by rust-protobuf: each number singly");
+    for (bytes, message) in single.iter().zip(messages) {
+        group.holds(bytes, *bytes == singly(message), || "these bytes are of another form".to_string());
+    }
+    tally.add(group);
+    let packed = protoc::write(messages)?;
+    read_by(ours::read, tally, "written by protoc, read by ours", &packed, messages);
+    let mut group = Group::new("written by protoc: ours, byte for byte");
+    for (bytes, ours) in packed.iter().zip(by_ours) {
+        group.holds(bytes, bytes == ours, || format!("ours are {}", hex(ours)));
+    }
+    tally.add(group);
+    Ok(())
+}
+
+fn read_by(reader: fn(&[u8]) -> Answer, tally: &mut Tally, name: &str, encoded: &[Vec<u8>], messages: &[Message]) {
+    let mut group = Group::new(name);
+    for (bytes, message) in encoded.iter().zip(messages) {
+        group.hold(bytes, &Ok(message.clone()), &reader(bytes));
+    }
+    tally.add(group);
 }
 
 /// Messages that protoc has to take; all at once, so of one that it refuses it does not say which.
@@ -122,41 +151,6 @@ fn read_by_protoc(tally: &mut Tally, name: &str, encoded: &[Vec<u8>], messages: 
     tally.add(group);
 }
 
-fn read_by_rust(tally: &mut Tally, name: &str, encoded: &[Vec<u8>], messages: &[Message]) {
-    let mut group = Group::new(name);
-    for (bytes, message) in encoded.iter().zip(messages) {
-        group.hold(bytes, &Ok(message.clone()), &rust_protobuf::read(bytes));
-    }
-    tally.add(group);
-}
-
-fn read_by_ours(tally: &mut Tally, name: &str, encoded: &[Vec<u8>], messages: &[Message]) {
-    let mut group = Group::new(name);
-    for (bytes, message) in encoded.iter().zip(messages) {
-        group.hold(bytes, &Ok(message.clone()), &ours::read(bytes));
-    }
-    tally.add(group);
-}
-
-fn written_by_others(tally: &mut Tally, messages: &[Message]) -> Result<(), String> {
-    let single: Vec<Vec<u8>> = messages.iter().map(rust_protobuf::write).collect();
-    read_by_ours(tally, "written by rust-protobuf, read by ours", &single, messages);
-    let mut group = Group::new("written by rust-protobuf: each number singly");
-    for (bytes, message) in single.iter().zip(messages) {
-        group.holds(bytes, *bytes == singly(message), || "these bytes are of another form".to_string());
-    }
-    tally.add(group);
-    let packed = protoc::write(messages)?;
-    read_by_ours(tally, "written by protoc, read by ours", &packed, messages);
-    let mut group = Group::new("written by protoc: ours, byte for byte");
-    for (bytes, message) in packed.iter().zip(messages) {
-        let ours = written(message);
-        group.holds(bytes, *bytes == ours, || format!("ours are {}", hex(&ours)));
-    }
-    tally.add(group);
-    Ok(())
-}
-
 // ** Encodings that no encoder writes
 
 fn whole(fields: &[Field]) -> Vec<u8> {
@@ -165,8 +159,8 @@ fn whole(fields: &[Field]) -> Vec<u8> {
 
 fn made_by_hand(tally: &mut Tally, random: &mut Random, messages: &[Message]) {
     let encoded: Vec<Vec<u8>> = messages.iter().map(|message| whole(&random.fields(message))).collect();
-    read_by_ours(tally, "made by hand, read by ours", &encoded, messages);
-    read_by_rust(tally, "made by hand, read by rust-protobuf", &encoded, messages);
+    read_by(ours::read, tally, "made by hand, read by ours", &encoded, messages);
+    read_by(rust_protobuf::read, tally, "made by hand, read by rust-protobuf", &encoded, messages);
     read_by_protoc(tally, "made by hand, read by protoc", &encoded, messages);
     damaged(tally, random, &encoded);
 }
@@ -199,11 +193,11 @@ fn cut(tally: &mut Tally, random: &mut Random, messages: &[Message]) -> Result<(
         }
         for end in 0..bytes.len() {
             let (ours, rust) = (ours::read(&bytes[..end]), rust_protobuf::read(&bytes[..end]));
-            let lax = in_packed_list[end] && ours == Err("28".to_string()) && rust.is_ok();
-            let refused = ours == Err("28".to_string()) && rust.is_err();
-            group.holds(&bytes[..end], lax || refused || ours == rust && ours.is_ok(), || {
-                format!("ours gives {}, rust-protobuf {}", show(&ours), show(&rust))
-            });
+            let good = match &ours {
+                Ok(_) => ours == rust,
+                Err(number) => number == "28" && (rust.is_err() || in_packed_list[end]),
+            };
+            group.holds(&bytes[..end], good, || format!("ours gives {}, rust-protobuf {}", show(&ours), show(&rust)));
             match ours {
                 Ok(message) => {
                     taken.push(bytes[..end].to_vec());
