@@ -67,29 +67,24 @@ impl Random {
 
     // ** Encodings
 
-    /// The fields of an encoding: each list split anyhow over packed and single fields, the lists' fields in any order, the
-    /// flag given several times, unknown fields between. Tags and lengths have at most the five bytes that protoc takes,
-    /// numbers any form.
+    /// The fields of an encoding: each list split anyhow over packed and single fields, all in any order, the flag given several
+    /// times, unknown fields between. Tags and lengths have at most the five bytes that protoc takes, numbers any form.
     pub fn fields(&mut self, message: &Message) -> Vec<Field> {
-        let with_flag = message.flag || self.one_in(2);
         let mut places = [0; 4];
         let mut all = vec![];
         loop {
+            self.unknown(&mut all);
             let left: Vec<usize> = (0..4).filter(|&list| places[list] < message.lists[list].len()).collect();
             if left.is_empty() {
                 break;
             }
             let list = left[self.below(left.len())];
-            let rest = &message.lists[list][places[list]..];
-            let (field, taken) = self.part(list as u64 + 1, rest);
+            let (field, taken) = self.part(list as u64 + 1, &message.lists[list][places[list]..]);
             places[list] += taken;
             all.push(field);
-            self.between(&mut all, with_flag);
         }
-        self.between(&mut all, with_flag);
-        if with_flag {
-            let value = if message.flag { self.flag() } else { 0 };
-            all.push(self.field(FLAG, VARINT, &value_bytes(value)));
+        if message.flag || self.one_in(2) {
+            self.flags(&mut all, message.flag);
         }
         all
     }
@@ -105,23 +100,35 @@ impl Random {
         (self.length_delimited(number, &payload), taken)
     }
 
-    /// Perhaps a flag, where one comes after it that decides; perhaps an unknown field.
-    fn between(&mut self, all: &mut Vec<Field>, with_flag: bool) {
-        if with_flag && self.one_in(8) {
-            let value = if self.one_in(2) { self.flag() } else { 0 };
-            all.push(self.field(FLAG, VARINT, &value_bytes(value)));
+    /// Perhaps an unknown field.
+    fn unknown(&mut self, all: &mut Vec<Field>) {
+        if !self.one_in(3) {
+            return;
         }
-        if self.one_in(3) {
-            let number = (6 + self.number() % LAST_FIELD).min(LAST_FIELD);
-            let bytes: Vec<u8> = (0..self.below(20)).map(|_| self.next() as u8).collect();
-            let value = self.number();
-            let field = match self.below(4) {
-                0 => self.field(number, VARINT, &value_bytes(value)),
-                1 => self.field(number, FIXED64, &value.to_le_bytes()),
-                2 => self.length_delimited(number, &bytes),
-                _ => self.field(number, FIXED32, &(value as u32).to_le_bytes()),
-            };
-            all.push(field);
+        let number = (FLAG + 1 + self.number() % LAST_FIELD).min(LAST_FIELD);
+        let value = self.number();
+        let field = match self.below(4) {
+            0 => self.field(number, VARINT, &varint(value, 1)),
+            1 => self.field(number, FIXED64, &value.to_le_bytes()),
+            2 => {
+                let bytes: Vec<u8> = (0..self.below(20)).map(|_| self.next() as u8).collect();
+                self.length_delimited(number, &bytes)
+            }
+            _ => self.field(number, FIXED32, &(value as u32).to_le_bytes()),
+        };
+        all.push(field);
+    }
+
+    /// One to three flags among the fields: the last one decides.
+    fn flags(&mut self, all: &mut Vec<Field>, decided: bool) {
+        let mut places: Vec<usize> = (0..1 + self.below(3)).map(|_| self.below(all.len() + 1)).collect();
+        places.sort();
+        let mut set = decided;
+        for place in places.into_iter().rev() {
+            let value = if set { self.flag() } else { 0 };
+            let field = self.field(FLAG, VARINT, &varint(value, 1));
+            all.insert(place, field);
+            set = self.one_in(2);
         }
     }
 
@@ -167,8 +174,4 @@ impl Random {
 pub struct Field {
     pub bytes: Vec<u8>,
     pub packed_list: bool,
-}
-
-fn value_bytes(value: u64) -> Vec<u8> {
-    varint(value, 1)
 }
