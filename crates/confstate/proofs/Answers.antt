@@ -20,11 +20,11 @@ unfolding readAnswer readLeaves
 too-short l old h = (rw (lt-ltb _ _ h), rw (lt-ltb _ _ h))
 
 module _ (l old : List ℕ) (h : 261 ≤ length old) where
-  answer : readAnswer l (length old) ≡ numberRead (read l)
+  pub answer : readAnswer l (length old) ≡ numberRead (read l)
   unfolding readAnswer
   answer = rw (le-ltb (length old) 261 h)
 
-  leaves : readLeaves l old ≡ confStateWords (messageRead (read l)) ++ drop 261 old
+  pub leaves : readLeaves l old ≡ confStateWords (messageRead (read l)) ++ drop 261 old
   unfolding readLeaves
   leaves = rw (le-ltb (length old) 261 h)
 

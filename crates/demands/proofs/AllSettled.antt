@@ -11,6 +11,7 @@ pub record Settled : Type 0 where
   pub calls : lone.Calls
   pub text : lent.Texts
   pub listing : lent.Listings
+  pub messages : lent.Messages
   pub entries : lent.Entries
 
 pub all-settled : Settled
@@ -24,5 +25,6 @@ all-settled =
       calls = lone.calls;
       text = lent.text;
       listing = lent.listing;
+      messages = lent.messages;
       entries = lent.entries;
     }

@@ -19,4 +19,5 @@ pub mod Lent
 pub mod AllSettled
 pub mod Bytes
 pub mod Unplugs
+pub mod Messages
 pub mod Theorems

@@ -1,15 +1,17 @@
 -- What is claimed of the public calls, one theorem for each of the maintainer's sentences. They speak of the definitions that the public
 -- contracts are equal to; the statements are specs/Demands.antt, Statements.antt, Neighbours.antt and Numbers.antt. Assumes nothing.
-use Prim.Native.Nat.{ℕ}
+use Prim.Native.Nat.{ℕ, _<_, _≤_}
 use mathlib.Core.Path.{_≡_, ap, _∙_, sym}
 use mathlib.Core.Bool.{true, false}
 use mathlib.Core.List.{List}
 use lib.Dec.{eqb}
+use lib.ListN.{length}
 use Rattle.rules.specs.Check.{joint}
 use Rattle.rules.specs.Ids.{isEmpty}
 use Rattle.rules.specs.State.{Change, fresh, noConf}
 use Rattle.rules.specs.Calls.{enterJoint, leaveJoint, simple}
 use Rattle.rules.specs.Demands.{AltersItsOwn, AsTheRust}
+use Rattle.rules.specs.Message.{Below64}
 use Rattle.rules.specs.Idle.{enterIdles, simpleIdles}
 use Rattle.tracker.specs.Bridge.{confOf, stateOf, trackerOf}
 use Rattle.tracker.specs.Form.{trackerWellFormed}
@@ -22,6 +24,9 @@ use Rattle.changer.proofs.View.{enter-alike, leave-alike, simple-alike}
 use Rattle.restore.proofs.Restored.{stepped-runs}
 use Rattle.demands.specs.Sequences.{Call, afterCalls}
 use Rattle.demands.specs.Demands.{AcceptedIsApplied, CanBeLeft, ComesBack, CopyIsTheView, Counted, EmptyComesBack, Kept, Unplugged, Whole}
+use Rattle.confstate.specs.Words.{messageIn}
+use Rattle.confstate.specs.Entries.{writeNumber}
+use Rattle.demands.specs.Messages.{NotRead, NotWritten, Reading, Travels}
 use Rattle.demands.specs.Neighbours.{CallsShare, SequenceShares}
 use Rattle.demands.specs.Numbers.{FirstTold, FirstToldByEntries, Never13}
 use Rattle.demands.specs.Statements.{AsksSimple, OneAnswer, OthersAlterNeither, RefusedUntouched}
@@ -31,6 +36,7 @@ use Rattle.demands.proofs.Bytes.{call, no-call, replay-no-room, replay-
 use Rattle.demands.proofs.Counts.{all-counted}
 use Rattle.demands.proofs.FirstTold.{entries-told, first-told}
 use Rattle.demands.proofs.Listed.{listed, own-altered}
+use Rattle.demands.proofs.Messages.{not-read, not-written, reading, travels}
 use Rattle.demands.proofs.Neighbours.{calls-share, sequence-shares}
 use Rattle.demands.proofs.Ordered.{can-be-left, empty-back, fresh-leads, order-back}
 use Rattle.demands.proofs.Others.{others}
@@ -133,6 +139,22 @@ neighbours-share = calls-share
 -- Document 02, i): "This is to hold at each step of any sequence, restore's own steps included."
 pub neighbours-share-throughout : (t : Tracker) → inOrderOf t ≡ true → (cs : List Call) → SequenceShares t cs
 neighbours-share-throughout = sequence-shares
+
+-- Document 02, k): "Read and write it on byte slices." Bytes read into lent words: the number, the words of a refused and of an accepted message, and those
+-- after them. Less than 261 words are not touched.
+pub message-is-read : (l lent : List ℕ) → 261 ≤ length lent → Reading l lent
+message-is-read = reading
+
+pub no-room-to-read : (l lent : List ℕ) → length lent < 261 → NotRead l lent
+no-room-to-read = not-read
+
+-- Document 02, k): "The writer has one encoding for each message, and reading it gives the same four lists and flag." Every word is a 64-bit number.
+pub message-travels : (ws old lent : List ℕ) → writeNumber ws (length old) ≡ 0 → Below64 (messageIn ws) → 261 ≤ length lent → Travels ws old lent
+message-travels = travels
+
+-- Document 02, k): "the writer first refuses lists over 64 with 2", "31, output too small, buffer untouched"
+pub refused-is-not-written : (ws old : List ℕ) → eqb (writeNumber ws (length old)) 0 ≡ false → NotWritten ws old
+refused-is-not-written = not-written
 
 -- Document 01: "After the check, these rules stand as a table". Of a tracker that passes the check and is not joint: a list of changes, carried out by the
 -- table, is the list as changer.rs carries it out; and each change alters only its own id.
