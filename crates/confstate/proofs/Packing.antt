@@ -10,10 +10,11 @@ use lib.ListN.{length, take, drop, getD, set, length-set, length-drop, length-ap
 use lib.Seq.{append-snoc, take-all, take-append-le, drop-drop}
 use Rattle.rules.specs.Wire.{Front, cut, num, front, fits, Found, bad, found, judged, varintIn}
 use Rattle.rules.specs.Message.{Numbers, faulty, all, lower, before, packed, grown}
-use Rattle.rules.proofs.Wire.{front-within}
+use Rattle.rules.proofs.Wire.{fits-yes, front-within}
 use Rattle.rules.proofs.Packed.{packed-none, packed-cut, packed-num}
 use Rattle.wire.specs.Varints.{varintAt}
 use Rattle.wire.specs.declared.Varint.{Varint}
+use Rattle.wire.proofs.Fronts.{front-last}
 use Rattle.wire.proofs.Found.{read-bad, read-found, read-fault, found-within}
 use Rattle.confstate.specs.Words.{listWords, listIn}
 use Rattle.confstate.specs.Steps.{Listing, Grows}
@@ -57,6 +58,10 @@ packed-found l {v} {n} e = by (front l) refl e
 
 packed-over : (l : List ℕ) {v n : ℕ} → front l ≡ num v n → fits v n ≡ false → packed l ≡ lower 29 (packed (drop n l))
 packed-over l {v} {n} g t = packed-num l g ∙ ap (λ (b : Bool). before (cond b (found v n) (bad 29)) (packed (drop n l))) t
+
+one-found : (l : List ℕ) (p : ℕ) → p < length l → getD l p 0 < 128 → varintIn (drop p l) ≡ found (getD l p 0) 1
+unfolding varintIn
+one-found l p h b = ap judged (front-last l p h b) ∙ rw (fits-yes (getD l p 0) 1 (omega arith) (omega arith))
 
 -- ** The loop
 
@@ -126,6 +131,29 @@ module _ {l old : List ℕ} {c : ℕ} {ws : List ℕ} {n p : ℕ} {over : Bool} 
   here : {r : Numbers} → packed (drop p l) ≡ r → result over (k .seen) r ≡ grown old (packed l)
   here e = ap (result over (k .seen)) (sym e) ∙ k .same
 
+  kept : (t : Bool) (x : ℕ) → length (cond t (set ws n x) ws) ≡ length ws
+  kept true x = length-set ws n x
+  kept false x = refl
+
+  -- one more number, of so many bytes
+  packing-found : {x size : ℕ} {m : List ℕ} → varintIn (drop p l) ≡ found x size → m ≡ cond (ltb n 64) (set ws n x) ws → Packing l old c m (n + 1) over (p + size)
+  packing-found {x} {size} {m} reads g =
+      let d : drop size (drop p l) ≡ drop (p + size) l = drop-drop size p l in
+      record {
+        long = ap length g ∙ (kept (ltb n 64) x ∙ k .long);
+        seen = k .seen ++ (x ∷ []);
+        spot = omega (arith, found-within (drop p l) reads .0, found-within (drop p l) reads .1, length-drop p l);
+        count = omega (arith, k .count, length-append (k .seen) (x ∷ []));
+        bound = omega (arith, k .bound, found-within (drop p l) reads .0);
+        holds = g ∙ (rw (k .holds, k .count) (stored (k .seen) c x));
+        same = ap (λ (y : List ℕ). result over (k .seen ++ (x ∷ [])) (packed y)) (sym d)
+            ∙ (sym (result-value over (k .seen) x size (packed (drop size (drop p l)))) ∙ here (packed-found (drop p l) reads));
+      }
+
+  -- one of one byte
+  pub packing-one : p < length l → getD l p 0 < 128 → {m : List ℕ} → m ≡ cond (ltb n 64) (set ws n (getD l p 0)) ws → Packing l old c m (n + 1) over (p + 1)
+  packing-one h b g = packing-found (one-found l p h b) g
+
   module _ (h : p < length l) {v : Varint} (e : v ≡ varintAt l p) where
     left : 0 < length (drop p l)
     left = simp length-drop (omega arith)
@@ -150,23 +178,8 @@ module _ {l old : List ℕ} {c : ℕ} {ws : List ℕ} {n p : ℕ} {over : Bool} 
       pub value-within : (p < v .next) × (v .next ≤ length l)
       value-within = (omega (arith, found-within (drop p l) reads .0, ends), omega (arith, found-within (drop p l) reads .1, ends, length-drop p l))
 
-      kept : (t : Bool) → length (cond t (set ws n (v .value)) ws) ≡ length ws
-      kept true = length-set ws n (v .value)
-      kept false = refl
-
       pub packing-next : {m : List ℕ} → m ≡ cond (ltb n 64) (set ws n (v .value)) ws → Packing l old c m (n + 1) over (v .next)
-      packing-next {m} g =
-          let d : drop size (drop p l) ≡ drop (v .next) l = drop-drop size p l ∙ ap (λ (j : ℕ). drop j l) (sym ends) in
-          record {
-            long = ap length g ∙ (kept (ltb n 64) ∙ k .long);
-            seen = k .seen ++ (v .value ∷ []);
-            spot = value-within .1;
-            count = omega (arith, k .count, length-append (k .seen) (v .value ∷ []));
-            bound = omega (arith, k .bound, value-within .0);
-            holds = g ∙ (rw (k .holds, k .count) (stored (k .seen) c (v .value)));
-            same = ap (λ (y : List ℕ). result over (k .seen ++ (v .value ∷ [])) (packed y)) (sym d)
-                ∙ (sym (result-value over (k .seen) (v .value) size (packed (drop size (drop p l)))) ∙ here (packed-found (drop p l) reads));
-          }
+      packing-next {m} g = subst (λ (j : ℕ). Packing l old c m (n + 1) over j) (sym ends) (packing-found reads g)
 
     module _ (f : v .fault ≡ 0 → ⊥) (g : v .fault ≡ 28 → ⊥) where
       abbrev wide : ℕ

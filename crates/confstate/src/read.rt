@@ -148,10 +148,10 @@ fn flag(value: u64) -> u64
 
 // A length and as many bytes: the numbers of a list, packed.
 fn length_field(bytes: &[u8], at: usize, number: u64, words: &mut [u64]) -> Taken
-    requires { ⌜ Holding (now words) × (at ≤ length (now bytes)) ⌝ }
+    requires { ⌜ Holding (now words) ⌝ }
     ensures { λ r. ⌜ Takes (heldAt at number (messageIn (now (words .entry))) (lengthIn (drop at (now (bytes .entry))) (varintIn (drop at (now (bytes .entry)))))) r (now (words .exit)) ⌝ }
 {
-    let v = wire::read_long(bytes, at);
+    let v = wire::read_varint(bytes, at);
     if v.fault != 0 {
         return refused(v.fault);
     }
@@ -214,7 +214,7 @@ fn single(value: u64, list: &mut [u64]) -> u64
     0
 }
 
-// Packed numbers after those of a list. A cut one ends it; that one was over, or that there are more than 64, is told at the end.
+// Packed numbers after those of a list, those of one byte first. A cut one ends it; that one was over, or that there are more than 64, is told at the end.
 fn packed(bytes: &[u8], list: &mut [u64]) -> u64
     requires { ⌜ Listing (now list) ⌝ }
     ensures { λ r. ⌜ Grows (grown (listIn (now (list .entry)) 0) (packedIn (now (bytes .entry)))) r (now (list .exit)) ⌝ }
@@ -223,6 +223,13 @@ fn packed(bytes: &[u8], list: &mut [u64]) -> u64
     let mut over = false;
     let mut p = 0;
     while p < bytes.len() {
+        let b = bytes[p] as u64;
+        if b < 128 {
+            store(list, n, b);
+            n += 1;
+            p += 1;
+            continue;
+        }
         let v = wire::read_varint(bytes, p);
         if v.fault == 28 {
             return 28;

@@ -24,7 +24,6 @@ use Rattle.calls.proofs.«dimecandle_unplug».Reads as calls-unplug
 use Rattle.calls.proofs.«dimecandle_read_conf_state».Reads as calls-read-conf-state
 use Rattle.calls.proofs.«dimecandle_write_conf_state».Reads as calls-write-conf-state
 use Rattle.wire.proofs.«read_varint».Reads as wire-read-varint
-use Rattle.wire.proofs.«read_long».Reads as wire-read-long
 use Rattle.wire.proofs.size.Reads as wire-size
 use Rattle.wire.proofs.«put_varint».Reads as wire-put-varint
 use Rattle.confstate.proofs.read.read.Reads as confstate-read
@@ -87,7 +86,6 @@ listing = search (equation, put-settled, turned, both)
 
 pub record Messages : Type 0 where
   pub read-varint : Settles wire-read-varint.Learnt
-  pub read-long : Settles wire-read-long.Learnt
   pub size : Settles wire-size.Learnt
   pub put-varint : SettlesWith wire-put-varint.Learnt (λ κs e. now (e .0))
   pub read : SettlesWith confstate-read.Learnt (λ κs e. now (e .1 .0))

@@ -1,8 +1,9 @@
--- Laws of the bytes of a number: how many they are, and the loops that count them and put them into a slice. Assumes nothing.
-use Prim.Native.Nat.{ℕ, zero, suc, _+_, _/_, _%_, _^_, _≤_, _<_}
+-- Laws of the bytes of a number: how many they are, and the loop that puts them into a slice. Assumes nothing.
+use Prim.Native.Nat.{ℕ, zero, suc, _+_, _*_, _/_, _%_, _^_, _≤_, _<_}
 use mathlib.Core.Path.{_≡_, refl, ap, sym, _∙_}
 use mathlib.Core.Bool.{Bool, true, false, cond}
 use mathlib.Core.List.{List, [], _∷_}
+use native.Mathlib.Nat.{one-le-pow, pow-suc}
 use native.Mathlib.Numerals.{add-one}
 use native.Mathlib.Omega.{arith}
 use borrow.Author.Tests.{lt-ltb, le-ltb}
@@ -38,26 +39,25 @@ left-more {m} {l} s h = by (s .fuel) (s .enough) (s .those)
         let d : m / 128 < 128 ^ suc k = groups-less k m e in
         (groups (suc k) (m / 128), (record { fuel = k; enough = d; those = refl }, t ∙ groups-more (suc k) m h))
 
--- the loop that counts the bytes of n has come to the k-th
-pub record Counting (n k m : ℕ) : Type 0 where
-  pub rest : List ℕ
-  pub left : Left m rest
-  pub count : k + length rest ≡ length (varintOf n) + 1
+-- how many bytes a number takes, by its size
+groups-count : (k j n : ℕ) → 128 ^ k ≤ n → n < 128 ^ suc k → length (groups (suc (k + j)) n) ≡ suc k
+groups-count zero j n a h = ap length (groups-one (zero + j) n (omega arith))
+groups-count (suc k) j n a h =
+    let p : 128 ^ suc k ≡ 128 ^ k * 128 = pow-suc 128 k in
+    let q : 128 ^ suc (suc k) ≡ 128 ^ suc k * 128 = pow-suc 128 (suc k) in
+    let one : 1 ≤ 128 ^ k = one-le-pow k 128 (omega arith) in
+    let e : suc k + j ≡ suc (k + j) = omega arith in
+    ap (λ (m : ℕ). length (groups (suc m) n)) e
+    ∙ (ap length (groups-more (suc (k + j)) n (omega arith)) ∙ ap suc (groups-count k j (n / 128) (omega arith) (omega arith)))
 
-pub count-start : {n : ℕ} → n < 2 ^ 64 → Counting n 1 n
-count-start {n} h = record { rest = varintOf n; left = left-all n h; count = omega arith }
+pub size-one : (n : ℕ) → n < 128 → 1 ≡ length (varintOf n)
+unfolding varintOf
+size-one n h = sym (ap length (groups-one 9 n h))
 
-module _ {n k m : ℕ} (s : Counting n k m) where
-  pub count-few : k ≤ 10
-  count-few = omega (arith, s .count, left-some (s .left), varint-length n)
-
-  pub count-next : 128 ≤ m → Counting n (k + 1) (m / 128)
-  count-next h =
-      let t = left-more (s .left) h in
-      record { rest = t .0; left = t .1 .0; count = omega (arith, s .count, ap length (t .1 .1)) }
-
-  pub count-end : m < 128 → k ≡ length (varintOf n)
-  count-end h = omega (arith, s .count, ap length (left-one (s .left) h))
+-- two bytes and more, j less than ten
+pub size-more : (k j n : ℕ) → k + j ≡ 9 → 128 ^ k ≤ n → n < 128 ^ suc k → suc k ≡ length (varintOf n)
+unfolding varintOf
+size-more k j n e a h = sym (ap (λ (m : ℕ). length (groups (suc m) n)) (sym e) ∙ groups-count k j n a h)
 
 -- the loop that puts the bytes of n has come to place p
 pub record Putting (old : List ℕ) (at n : ℕ) (out : List ℕ) (p m : ℕ) : Type 0 where

@@ -213,10 +213,6 @@ module _ (l : List ℕ) (at : ℕ) (h : at < length l) where
   unfolding varintAt
   short-one k = rw (front-last l at h k, fits-yes (getD l at 0) 1 (omega arith) (omega arith))
 
-  pub short-cut : 128 ≤ getD l at 0 → length l - at < 2 → cutAt at ≡ varintAt l at
-  unfolding varintAt
-  short-cut k m = rw (front-more l at h k, front-none l (at + 1) (omega arith))
-
   pub short-two : 128 ≤ getD l at 0 → getD l at 0 < 256 → 2 ≤ length l - at → getD l (at + 1) 0 < 128
       → valueAt (getD l at 0 - 128 + 128 * getD l (at + 1) 0) (at + 2) ≡ varintAt l at
   unfolding varintAt

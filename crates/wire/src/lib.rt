@@ -14,7 +14,8 @@ pub struct Varint {
     pub next: usize,
 }
 
-// The varint at place `at`: those of one byte and of two first, which most are.
+// The varint at place `at`: those of one byte and of two first, which most are. It has two calls of `read_long`, since the compiler would put a function that is
+// called once into its caller, and this one is to be short.
 pub fn read_varint(bytes: &[u8], at: usize) -> Varint
     ensures { λ r. ⌜ r ≡ varintAt (now (bytes .entry)) at ⌝ }
 {
@@ -34,11 +35,7 @@ pub fn read_varint(bytes: &[u8], at: usize) -> Varint
         };
     }
     if bytes.len() - at < 2 {
-        return Varint {
-            fault: 28,
-            value: 0,
-            next: at,
-        };
+        return read_long(bytes, at);
     }
     let c = bytes[at + 1] as u64;
     if c < 128 {
@@ -51,8 +48,8 @@ pub fn read_varint(bytes: &[u8], at: usize) -> Varint
     read_long(bytes, at)
 }
 
-// The same of any length. The reader calls it too, for a length: with one caller the compiler would put it into `read_varint`, and that is to be short.
-pub fn read_long(bytes: &[u8], at: usize) -> Varint
+// The same, of any length.
+fn read_long(bytes: &[u8], at: usize) -> Varint
     requires { ⌜ at ≤ length (now bytes) ⌝ }
     ensures { λ r. ⌜ r ≡ varintAt (now (bytes .entry)) at ⌝ }
 {
@@ -148,13 +145,50 @@ fn end_of(bytes: &[u8], at: usize) -> usize
 pub fn size(n: u64) -> usize
     ensures { λ r. ⌜ r ≡ length (varintOf n) ⌝ }
 {
-    let mut k = 1;
-    let mut m = n;
-    while 128 <= m {
-        m = m / 128;
-        k += 1;
+    if n < 128 {
+        return 1;
     }
-    k
+    if n < 34359738368 {
+        return size_to_5(n);
+    }
+    size_to_10(n)
+}
+
+// Of a number of two to five bytes.
+fn size_to_5(n: u64) -> usize
+    requires { ⌜ (128 ≤ n) × (n < 2 ^ 35) ⌝ }
+    ensures { λ r. ⌜ r ≡ length (varintOf n) ⌝ }
+{
+    if n < 16384 {
+        return 2;
+    }
+    if n < 2097152 {
+        return 3;
+    }
+    if n < 268435456 {
+        return 4;
+    }
+    5
+}
+
+// Of a number of six to ten bytes.
+fn size_to_10(n: u64) -> usize
+    requires { ⌜ 2 ^ 35 ≤ n ⌝ }
+    ensures { λ r. ⌜ r ≡ length (varintOf n) ⌝ }
+{
+    if n < 4398046511104 {
+        return 6;
+    }
+    if n < 562949953421312 {
+        return 7;
+    }
+    if n < 72057594037927936 {
+        return 8;
+    }
+    if n < 9223372036854775808 {
+        return 9;
+    }
+    10
 }
 
 // The number put at place `at`; the place after it.

@@ -3,7 +3,7 @@ use Prim.Native.Nat.{_+_, _<_}
 use native.Mathlib.Omega.{arith}
 use lib.ListN.{getD}
 use borrow.Author.Needs.{needs}
-use Rattle.wire.proofs.Reading.{short-none, short-one, short-cut, short-two}
+use Rattle.wire.proofs.Reading.{short-none, short-one, short-two}
 use Rattle.wire.proofs.read_varint.Statement.{statement}
 use Rattle.wire.proofs.read_varint.Tie as tie
 
@@ -25,8 +25,11 @@ returns-2 c = search (needs, short-one)
 sub-if3 : tie.Need-sub-if3
 sub-if3 c = search needs
 
+read-long-requires : tie.Need-read-long-requires
+read-long-requires c κs = search needs
+
 returns-3 : tie.Need-returns-3
-returns-3 c = search (needs, short-cut)
+returns-3 c = search needs
 
 add-c : tie.Need-add-c
 add-c c = search needs
@@ -52,8 +55,8 @@ returns-4 c =
     let b : getD (g .bytes .now) (g .at) 0 < 256 = omega (arith, c .before .before .before .before .shared-slice-known2 .given (g .at)) in
     short-two (g .bytes .now) (g .at) (c .before .before .before .before .before .if1 .left) (c .before .before .before .if2 .left) b (c .before .before .if3 .left) (c .if4 .taken)
 
-read-long-requires : tie.Need-read-long-requires
-read-long-requires c κs = search needs
+read-long-requires-2 : tie.Need-read-long-requires-2
+read-long-requires-2 c κs = search needs
 
 returns-5 : tie.Need-returns-5
 returns-5 c = search needs
@@ -68,6 +71,7 @@ read-varint-spec =
     add-t9
     returns-2
     sub-if3
+    read-long-requires
     returns-3
     add-c
     shared-slice-read-c
@@ -76,5 +80,5 @@ read-varint-spec =
     add-t14
     add-t15
     returns-4
-    read-long-requires
+    read-long-requires-2
     returns-5)

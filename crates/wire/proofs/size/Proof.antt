@@ -1,30 +1,23 @@
--- `wire::size` meets its contract: `m` is what is left of the number. Assumes nothing.
-use native.Mathlib.Omega.{arith}
+-- `wire::size` meets its contract. Assumes nothing.
+use Rattle.wire.proofs.Putting.{size-one}
 use borrow.Author.Needs.{needs}
-use Rattle.wire.proofs.Putting.{Counting, count-start, count-few, count-next, count-end}
 use Rattle.wire.proofs.size.Statement.{statement}
 use Rattle.wire.proofs.size.Tie as tie
 
-abbrev Inv-loop : tie.InvT-loop
-Inv-loop n k₀ m₀ k m = Counting n k m
+returns : tie.Need-returns
+returns c = size-one (c .before .args .n) (c .if1 .taken)
 
-abbrev μ-loop : tie.MeasureT-loop
-μ-loop n k₀ m₀ k m = m
+size-to-5-requires : tie.Need-size-to-5-requires
+size-to-5-requires c κs = search needs
 
-loop-holds : tie.Need-loop-holds Inv-loop μ-loop
-loop-holds c = search (needs, count-start)
+returns-2 : tie.Need-returns-2
+returns-2 c = search needs
 
-add-k : tie.Need-add-k Inv-loop μ-loop
-add-k c = omega (arith, count-few (c .before .loop .inv))
+size-to-10-requires : tie.Need-size-to-10-requires
+size-to-10-requires c κs = search needs
 
-loop-less : tie.Need-loop-less Inv-loop μ-loop
-loop-less c = search needs
-
-loop-again : tie.Need-loop-again Inv-loop μ-loop
-loop-again c = search (needs, count-next)
-
-returns : tie.Need-returns Inv-loop μ-loop
-returns c = search (needs, count-end)
+returns-3 : tie.Need-returns-3
+returns-3 c = search needs
 
 pub size-spec : {M : Type 1} → statement M
-size-spec = tie.close (tie.spec Inv-loop μ-loop loop-holds add-k loop-less loop-again returns)
+size-spec = tie.close (tie.spec returns size-to-5-requires returns-2 size-to-10-requires returns-3)

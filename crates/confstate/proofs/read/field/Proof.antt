@@ -27,7 +27,7 @@ returns c = tag-bad (c .before .before .before .before .before .before .args .by
 
 -- src/read.rt:77:9
 length-field-requires : tie.Need-length-field-requires
-length-field-requires c κs = (c .before .before .before .before .before .before .before .before .before .pre, next-within (c .before .before .before .before .before .before .before .before .before .args .bytes .now) (c .before .before .before .before .before .before .before .before .before .args .at) 0 (messageIn (c .before .before .before .before .before .before .before .before .before .args .words .now)) (c .before .before .before .before .before .before .read-varint .ensures) (c .before .before .before .before .if1 .left))
+length-field-requires c κs = c .before .before .before .before .before .before .before .before .before .pre
 
 -- src/read.rt:77:9
 same-length : tie.Need-same-length
