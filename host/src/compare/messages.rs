@@ -125,10 +125,15 @@ impl Comparison<'_> {
 
     pub fn lists_difference(&mut self, lists: &ConfState) -> Option<Difference> {
         let right = right_message(lists);
-        self.each_side(|this| this.writing_difference(lists, &right).map(from_the_paper))
+        self.each_side(|this| this.writing_difference(lists, &right))
     }
 
-    fn writing_difference(&self, lists: &ConfState, right: &Result<Vec<u8>, u64>) -> Option<String> {
+    /// Asks the subject, and holds what it wrote against what is right.
+    pub fn writing_difference(&self, lists: &ConfState, right: &Result<Vec<u8>, u64>) -> Option<Difference> {
+        self.written_in_rooms(lists, right).map(from_the_paper)
+    }
+
+    fn written_in_rooms(&self, lists: &ConfState, right: &Result<Vec<u8>, u64>) -> Option<String> {
         let message = match right {
             Ok(message) => message,
             Err(refusal) => {

@@ -10,7 +10,8 @@ mod written;
 pub use by_hand::examples;
 pub use encoders::encoders;
 pub use plain::plain;
-pub use written::{edges as write_edges, random as write_random, sizes as write_sizes};
+pub use sources::some_message;
+pub use written::{edges as write_edges, random as write_random, sizes as write_sizes, some_lists};
 
 use super::Size;
 use crate::compare::{Against, Compared, Comparison, Difference, Failure, Input};

@@ -175,12 +175,15 @@ pub fn random_bytes(random: &mut Random, size: Size, each: Each) -> Compared {
 
 pub fn random_fields(random: &mut Random, size: Size, each: Each) -> Compared {
     for _ in 0..size.pick(4_000, 150_000, 4_000_000) {
-        let mut left = [CAPACITY; 4];
-        let fields = random.between(1, 7);
-        let message: Vec<u8> = (0..fields).flat_map(|_| some_field(random, &mut left)).collect();
-        each(&message)?;
+        each(&some_message(random))?;
     }
     Ok(())
+}
+
+pub fn some_message(random: &mut Random) -> Vec<u8> {
+    let mut left = [CAPACITY; 4];
+    let fields = random.between(1, 7);
+    (0..fields).flat_map(|_| some_field(random, &mut left)).collect()
 }
 
 /// Mostly a good field; else one that may have faults, several of them at once.
