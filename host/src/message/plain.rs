@@ -91,25 +91,38 @@ fn fault_of(payload: &[u8], found: u64) -> u64 {
 /// The front of the bytes as a varint.
 #[inline]
 fn varint(rest: &mut &[u8]) -> Decoded<u64> {
-    match **rest {
-        [byte @ ..0x80, ref after @ ..] => {
-            *rest = after;
-            Ok(u64::from(byte))
-        }
-        _ => long_varint(rest),
+    if let [byte @ ..0x80, ref after @ ..] = **rest {
+        *rest = after;
+        return Ok(u64::from(byte));
+    }
+    let (value, after) = long_varint(rest)?;
+    *rest = after;
+    Ok(value)
+}
+
+/// One that goes on after its first byte, and what is behind it. Where ten bytes are there, no place among them is looked for.
+#[inline(never)]
+fn long_varint(rest: &[u8]) -> Decoded<(u64, &[u8])> {
+    let read = rest.first_chunk::<10>().map_or_else(|| groups(rest), |ten| groups(ten));
+    let (value, length) = read.ok_or_else(|| endless(rest))?;
+    let (bytes, after) = rest.split_at(length);
+    match bytes.get(9) {
+        Some(2..) => Err(NO_FIELD),
+        _ => Ok((value, after)),
     }
 }
 
-fn long_varint(rest: &mut &[u8]) -> Decoded<u64> {
+/// The value of these bytes up to the first that ends a varint, and how many they are; none where none does.
+#[inline(always)]
+fn groups(bytes: &[u8]) -> Option<(u64, usize)> {
     let mut value = 0;
-    for (place, &byte) in rest.iter().take(10).enumerate() {
+    for (place, &byte) in bytes.iter().enumerate() {
         value |= u64::from(byte & 0x7f) << (7 * place);
         if byte < 0x80 {
-            *rest = &rest[place + 1..];
-            return if place == 9 && byte > 1 { Err(NO_FIELD) } else { Ok(value) };
+            return Some((value, place + 1));
         }
     }
-    Err(endless(rest))
+    None
 }
 
 /// The fault of a varint that goes on after ten bytes, or after all that are there.
@@ -157,37 +170,36 @@ pub fn write(lists: &ConfState, bytes: &mut [u8]) -> u64 {
     let framed = |&payload: &usize| if payload == 0 { 0 } else { 1 + length_of(payload as u64) + payload };
     let length = payloads.iter().map(framed).sum::<usize>() + 2 * lists.auto_leave as usize;
     let Some(message) = bytes.get_mut(..length) else { return NO_ROOM_FOR_IT };
-    let mut rest = message;
+    let mut at = 0;
     for ((list, payload), tag) in lists.lists().into_iter().zip(payloads).zip([0x0a, 0x12, 0x1a, 0x22]) {
         if payload > 0 {
-            put(tag, &mut rest);
-            put(payload as u64, &mut rest);
-            list.used().iter().for_each(|&id| put(id, &mut rest));
+            message[at] = tag;
+            at = put(payload as u64, message, at + 1);
+            for &id in list.used() {
+                at = put(id, message, at);
+            }
         }
     }
     if lists.auto_leave == 1 {
-        rest.copy_from_slice(&[0x28, 0x01]);
+        message[at..].copy_from_slice(&[0x28, 0x01]);
     }
     length as u64
 }
 
-/// The bytes of a number's shortest varint.
+/// The bytes of a number's shortest varint: a seventh of its bits, rounded up, which for 1 to 64 bits is this without a division.
 fn length_of(number: u64) -> usize {
     let bits = 64 - (number | 1).leading_zeros() as usize;
-    bits.div_ceil(7)
+    (bits * 9 + 64) / 64
 }
 
-/// Puts a varint to the front of the bytes, and leaves those behind it.
+/// Puts a varint at a place: the place behind it.
 #[inline]
-fn put(mut number: u64, rest: &mut &mut [u8]) {
-    let mut bytes = std::mem::take(rest).iter_mut();
-    for byte in &mut bytes {
-        *byte = number as u8;
-        if number < 0x80 {
-            break;
-        }
-        *byte |= 0x80;
+fn put(mut number: u64, bytes: &mut [u8], mut at: usize) -> usize {
+    while number >= 0x80 {
+        bytes[at] = number as u8 | 0x80;
         number >>= 7;
+        at += 1;
     }
-    *rest = bytes.into_slice();
+    bytes[at] = number as u8;
+    at + 1
 }
