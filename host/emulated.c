@@ -78,7 +78,7 @@ static int give(const void *from, word length) {
 
 /* The stack is measured as in src/stack.rs: it is filled with a pattern below a margin, which has the frames of the functions here, and what
  * the entry wrote over is looked for. */
-enum { FILLED = 4 << 20, MARGIN = 2 << 10 };
+enum { FILLED = 4 << 20, MARGIN = 256 };
 static const word PATTERN = 0x5eed5eed5eed5eed;
 
 __attribute__((noinline)) static void fill(word top) {

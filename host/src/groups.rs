@@ -5,7 +5,7 @@ mod bytes;
 mod examples;
 mod idle;
 mod limits;
-mod messages;
+pub mod messages;
 mod neighbours;
 pub mod order;
 mod quorums;

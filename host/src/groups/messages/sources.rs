@@ -304,7 +304,7 @@ pub fn lengths(_: &mut Random, size: Size, each: Each) -> Compared {
             let length = varint(near.wrapping_sub(40).wrapping_add(off));
             for tag in &tags {
                 for before in [&[][..], &[0x08, 0x05], &[0x32, 0x03, 0x80, 0x80, 0x80]] {
-                    let content = vec![0x01; if off % 3 == 0 { 200 } else { off as usize % 7 }];
+                    let content = vec![0x30; if off % 3 == 0 { 200 } else { off as usize % 7 }];
                     each(&[before, tag, &length, &content].concat())?;
                 }
             }
