@@ -111,6 +111,8 @@ pub struct Comparison<'a> {
     pub with_rust: u64,
     /// calls that the paper accepts
     pub accepted: u64,
+    /// what a group says of its inputs itself
+    pub remark: String,
     other_fault: u64,
     numbers: Numbers,
     pub steps: Steps,
@@ -163,6 +165,7 @@ impl<'a> Comparison<'a> {
             inputs: 0,
             with_rust: 0,
             accepted: 0,
+            remark: String::new(),
             other_fault: 0,
             numbers: [0; 32],
             steps: Steps::default(),
@@ -175,6 +178,7 @@ impl<'a> Comparison<'a> {
     pub fn begin(&mut self, group: &'static str, share: Share) {
         (self.inputs, self.with_rust, self.accepted) = (0, 0, 0);
         (self.subject, self.differs) = (self.first, None);
+        self.remark.clear();
         if let Some(second) = &mut self.second {
             second.begin(group, share);
         }

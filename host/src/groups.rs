@@ -126,7 +126,7 @@ pub const GROUPS: [Group; 61] = [
     Group { name: "messages: damaged", entry: Entry::Messages, emulated: SOME, run: messages::damaged },
     Group { name: "messages: random bytes", entry: Entry::Messages, emulated: SOME, run: messages::random_bytes },
     Group { name: "messages: random fields", entry: Entry::Messages, emulated: SOME, run: messages::random_fields },
-    Group { name: "messages: varints of 1 to 13 bytes as every part", entry: Entry::Messages, emulated: SOME, run: messages::varints },
+    Group { name: "messages: varints of 1 to 13 bytes as every part", entry: Entry::Messages, emulated: ALL, run: messages::varints },
     Group { name: "messages: lengths near 2^31, 2^32, 2^63 and 2^64", entry: Entry::Messages, emulated: ALL, run: messages::lengths },
     Group { name: "messages: field numbers 0 to 2^61 - 1, every wire type", entry: Entry::Messages, emulated: ALL, run: messages::numbers },
     Group { name: "messages: lists of 62 to 67 in every form", entry: Entry::Messages, emulated: ALL, run: messages::long_lists },

@@ -179,11 +179,11 @@ fn run(group: &Group, options: &Options) -> OfGroup {
 
 /// What was asked in a group.
 fn counts_of(comparison: &Comparison, entry: Entry) -> String {
-    let Comparison { inputs, with_rust, accepted, .. } = comparison;
+    let Comparison { inputs, with_rust, accepted, remark, .. } = comparison;
     let mut counts = match entry {
         Entry::Call | Entry::Unplug => format!("{inputs} inputs, {with_rust} with the Rust, {accepted} accepted"),
         Entry::Messages => format!("{inputs} inputs, {accepted} accepted"),
-        Entry::Encoders => format!("{inputs} inputs"),
+        Entry::Encoders => format!("{inputs} inputs, {remark}"),
         Entry::Replay | Entry::Wrapper | Entry::Vectors => format!("{inputs} inputs, {with_rust} with the Rust"),
         Entry::Plain => return format!("{inputs} inputs, {accepted} accepted, nothing asked of the subject"),
         Entry::None if *inputs > 0 => return format!("{inputs} inputs of the Rust alone"),

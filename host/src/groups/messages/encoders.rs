@@ -33,11 +33,12 @@ pub fn encoders(comparison: &mut Comparison, _: &mut Random, _: Size) -> Compare
         read(comparison, &line, &place)?;
         written_so += u64::from(write(comparison, &line)?);
     }
-    if met.contains(&0) || written_so == 0 {
-        let what = format!("lines of {KINDS:?}: {met:?}; of protoc's {written_so} are as we write; none of these may be 0");
-        return Err(failure(FILE, what));
+    let lines: Vec<String> = KINDS.iter().zip(met).map(|(kind, count)| format!("{kind} {count}")).collect();
+    comparison.remark = format!("lines of {}; {written_so} of protoc's are what we write", lines.join(", "));
+    match met.contains(&0) || written_so == 0 {
+        false => Ok(()),
+        true => Err(failure(FILE, format!("{}: none may be 0", comparison.remark))),
     }
-    Ok(())
 }
 
 fn failure(input: &str, what: String) -> Box<Failure> {
