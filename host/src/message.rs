@@ -169,7 +169,7 @@ impl<'a> Field<'a> {
         }
     }
 
-    /// Every fault of the field, where so many numbers are in its list before.
+    /// Every fault of the field, behind what was read before it.
     fn faults(&self, model: &Model, read: &Read) -> Vec<u64> {
         if matches!(self.content, Content::Unknown) {
             return self.tag.faults(model);
