@@ -1,6 +1,6 @@
 //! The peak stack of each call, of a script and of messages, of the x86-64 code: the entry is run on a thread whose stack was filled with a
 //! pattern, and what it wrote over is looked for. Of emulated code the program around it does the same (emulated.c). Each has to keep within
-//! its bound. `dimecandle_unplug` takes less than can be told apart here: unplug.c measures it.
+//! its bound. `dimecandle_unplug` and the two entries on messages take less than can be told apart here: unplug.c and messages.c measure them.
 
 use crate::calls::CALLS;
 #[cfg(emulated)]
@@ -20,8 +20,8 @@ use std::process::ExitCode;
 /// What a call and a script may take.
 const BOUND: usize = 128 << 10;
 
-/// What reading and writing a message may take.
-const BOUND_OF_MESSAGES: usize = 1 << 10;
+/// What reading and writing a message may take: less than a list.
+const BOUND_OF_MESSAGES: usize = 512;
 
 /// What is not filled, so that less than this cannot be told apart: the frames of the measuring function and of the one that fills are here.
 const MARGIN: usize = 256;
