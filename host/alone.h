@@ -1,4 +1,4 @@
-/* What two_apart.c and unplug.c share: each runs one function of a static library alone, for its answers and for its stack. The stack below
+/* What messages.c, two_apart.c and unplug.c share: each runs functions of a static library alone, for their answers and their stack. The stack below
  * the call is filled with a pattern, and it is looked for how far that was written over, the return address included. scripts/alone builds
  * and runs them; they end with `N passed, M failed`.
  * No header is taken in, since there may be none for x86-64. */
@@ -49,11 +49,16 @@ static int answered(int right, word stack) {
     return right;
 }
 
-/* Says the most stack, and counts whether it is below the bound; the program's exit status. */
-static int ended(const char *name, word bound) {
+/* Says the most stack that a function took, and counts whether it is below the bound. What is answered after this is another's. */
+static void within(const char *name, word bound) {
     printf("%s takes %lu bytes of stack; less than %lu are allowed\n", name, most, bound);
     /* a call takes the place of a return address at least: less says that nothing was measured */
     answered(8 <= most && most < bound, most);
+    most = 0;
+}
+
+/* The counts; the program's exit status. */
+static int ended(void) {
     printf("%d passed, %d failed\n", passed, failed);
     return failed != 0;
 }

@@ -38,8 +38,9 @@ const STAND_INS: [&str; 2] = ["quorum/joint.rs", "quorum/majority.rs"];
 const NOT_OURS: &str = "#[allow(clippy::all, dead_code, mismatched_lifetime_syntaxes)]";
 
 /// The libraries, and the entries of each.
-const LIBRARIES: [(&str, &[&str]); 2] =
-    [("calls", &["dimecandle_call", "dimecandle_unplug"]), ("listing", &["dimecandle_replay"])];
+const LIBRARIES: [(&str, &[&str]); 2] = [("calls", &CALLS), ("listing", &["dimecandle_replay"])];
+
+const CALLS: [&str; 4] = ["dimecandle_call", "dimecandle_unplug", "dimecandle_read_conf_state", "dimecandle_write_conf_state"];
 
 fn main() {
     for name in ["rust_text", "libcalls", "liblisting", "calls_linked", "listing_linked", "emulated", "native"] {

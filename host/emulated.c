@@ -21,7 +21,22 @@ static word asked(const byte *given, word given_length, byte *lent, word lent_le
     const word *words = (const word *)given;
     return ENTRY(words + 1, given_length / sizeof(word) - 1, words[0], (word *)lent, lent_length / sizeof(word));
 }
+#elif defined DIMECANDLE_READ_CONF_STATE
+/* The entry that is given bytes and lent words. */
+word ENTRY(const byte *bytes, word bytes_length, word *conf_state, word conf_state_length);
+
+static word asked(const byte *given, word given_length, byte *lent, word lent_length) {
+    return ENTRY(given, given_length, (word *)lent, lent_length / sizeof(word));
+}
+#elif defined DIMECANDLE_WRITE_CONF_STATE
+/* The entry that is given words and lent bytes. */
+word ENTRY(const word *conf_state, word conf_state_length, byte *bytes, word bytes_length);
+
+static word asked(const byte *given, word given_length, byte *lent, word lent_length) {
+    return ENTRY((const word *)given, given_length / sizeof(word), lent, lent_length);
+}
 #else
+/* An entry that is given bytes and lent bytes. */
 word ENTRY(const byte *given, word given_length, byte *lent, word lent_length);
 #define asked ENTRY
 #endif
@@ -63,7 +78,7 @@ static int give(const void *from, word length) {
 
 /* The stack is measured as in src/stack.rs: it is filled with a pattern below a margin, which has the frames of the functions here, and what
  * the entry wrote over is looked for. */
-enum { FILLED = 4 << 20, MARGIN = 2 << 10 };
+enum { FILLED = 4 << 20, MARGIN = 256 };
 static const word PATTERN = 0x5eed5eed5eed5eed;
 
 __attribute__((noinline)) static void fill(word top) {

@@ -43,5 +43,6 @@ int main(void) {
         word stack = measured(a, pair->a.count, b, pair->b.count, &apart);
         if (!answered(apart == pair->apart, stack)) printf("two_apart: %s: %d, not %d\n", pair->what, apart, pair->apart);
     }
-    return ended("two_apart", BOUND);
+    within("two_apart", BOUND);
+    return ended();
 }

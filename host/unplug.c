@@ -94,5 +94,6 @@ int main(void) {
             printf(" not %lu, %lu id %lu, %d\n", asked->returned, asked->number, asked->named, STALE);
         }
     }
-    return ended("dimecandle_unplug", BOUND);
+    within("dimecandle_unplug", BOUND);
+    return ended();
 }

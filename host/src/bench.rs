@@ -1,18 +1,20 @@
 //! Times both sides on the same calls and scripts. The Rust is asked on its own values; the other side is asked through its C entries, so
 //! a call's time has the reading of the request's 20,216 bytes and the writing of the reply's 13,960 in it. A script has neither, and
-//! unplug only the reading of the state's 7,736. A second table sets unplug beside the call that it stands for.
+//! unplug only the reading of the state's 7,736. A second table sets unplug beside the call that it stands for, a third the reading and
+//! writing of messages beside the plain Rust of src/message/plain.rs, which checks as much and has the same lists.
 //! Times are of the processor, so that other programs on the machine do not count; the shortest of many batches is shown. What is timed
 //! is linked code: on x86-64 the static libraries', elsewhere the native code of the same LLVM modules. Emulated code is never timed.
 
 use crate::calls::{removal, APPLY_CONF, CHECK, ENTER_JOINT, LEAVE_JOINT, RESTORE, SIMPLE};
 use crate::compare::Comparison;
 use crate::groups::scripts::script;
+use crate::message::{plain, LONGEST_MESSAGE};
 use crate::oracle::{self, Replaying};
 use crate::run::CANNOT_RUN;
 use crate::script::{listing, ENTER, LEAVE, LONGEST_SCRIPT, RECORD, SIMPLE as RUN};
 use crate::subject::{linked_code, say_missing, Linked, Subject, LINKED_IS_EMULATED};
 use crate::words::{
-    Block, Change, Ids, List, Record, Request, ADD_LEARNER_NODE, ADD_NODE, REMOVE_NODE, REPLY_BYTES, VERDICT_WORDS,
+    Block, Change, ConfState, Ids, List, Record, Request, ADD_LEARNER_NODE, ADD_NODE, REMOVE_NODE, REPLY_BYTES, VERDICT_WORDS,
 };
 use raft::eraftpb::ConfChangeSingle;
 use raft::{Changer, ProgressTracker};
@@ -43,6 +45,12 @@ pub fn run() -> ExitCode {
     for size in SIZES {
         unplug_beside_simple(size);
     }
+    println!();
+    header("plain Rust", "other");
+    for (name, first, size) in MESSAGES {
+        let ids: Vec<u64> = (first..).take(size).collect();
+        messages(name, &ids);
+    }
     ExitCode::SUCCESS
 }
 
@@ -58,10 +66,13 @@ fn processor() -> String {
 
 const SIZES: [usize; 4] = [3, 5, 16, 64];
 
+/// In nanoseconds, and parts of them.
+type Time = f64;
+
 /// The shortest time of one of so many things done by `work`, over many batches of some two milliseconds.
-fn time(things: usize, mut work: impl FnMut()) -> Duration {
+fn time(things: usize, mut work: impl FnMut()) -> Time {
     let mut batch = 1;
-    let mut best = Duration::MAX;
+    let mut best = Time::MAX;
     let begin = processor_time();
     while processor_time() - begin < Duration::from_millis(400) {
         let start = processor_time();
@@ -69,7 +80,7 @@ fn time(things: usize, mut work: impl FnMut()) -> Duration {
             work();
         }
         let took = processor_time() - start;
-        best = best.min(took / batch / things as u32);
+        best = best.min(took.as_nanos() as Time / f64::from(batch) / things as Time);
         if took < Duration::from_millis(2) {
             batch *= 2;
         }
@@ -98,10 +109,16 @@ fn header(one: &str, other: &str) {
     println!("{:52}{one:>12}{other:>12}{:>9}", "", "ratio");
 }
 
-fn report(name: &str, one: Duration, other: Duration) {
-    let micros = |time: Duration| time.as_secs_f64() * 1e6;
-    let ratio = micros(other) / micros(one);
-    println!("{name:52}{:>9.2} µs{:>9.2} µs{ratio:>9.2}", micros(one), micros(other));
+fn report(name: &str, one: Time, other: Time) {
+    println!("{name:52}{:>12}{:>12}{:>9.2}", shown(one), shown(other), other / one);
+}
+
+fn shown(nanoseconds: Time) -> String {
+    if nanoseconds < 1e3 {
+        format!("{nanoseconds:.1} ns")
+    } else {
+        format!("{:.2} µs", nanoseconds / 1e3)
+    }
 }
 
 // ** Calls
@@ -129,7 +146,7 @@ fn the_layout() {
     report("check of the fresh state: the words alone", rust, time_of_call(&Request::new(CHECK)));
 }
 
-fn time_of_call(request: &Request) -> Duration {
+fn time_of_call(request: &Request) -> Time {
     let mut reply = vec![0; REPLY_BYTES];
     time(1, || {
         Linked.call(black_box(request.bytes()), &mut reply);
@@ -157,7 +174,7 @@ fn last_removed(size: usize) -> Box<Request> {
     removal(&group(size).state, size as u64)
 }
 
-fn time_of_unplug(request: &Request) -> Duration {
+fn time_of_unplug(request: &Request) -> Time {
     let mut verdict = [0; VERDICT_WORDS];
     time(1, || {
         Linked.unplug(black_box(request.state.words()), request.list.ids[0], &mut verdict);
@@ -300,4 +317,37 @@ fn replaying(name: &str, size: usize, cycle: &[(u8, u64)]) {
         assert_eq!(Linked.replay(black_box(&bytes), &mut out), text.len() as u64);
     });
     report(name, rust, other);
+}
+
+// ** Messages
+
+/// Voters alone: what they are, the first id and how many. Those from 2^63 on take ten bytes each.
+const MESSAGES: [(&str, u64, usize); 3] =
+    [("5 voters", 1, 5), ("64 voters", 1, 64), ("64 voters with ids of 10 bytes", 1 << 63, 64)];
+
+fn messages(name: &str, ids: &[u64]) {
+    let mut lists = ConfState::zero();
+    lists.voters = Ids::of(ids);
+    let (mut bytes, mut read) = ([0; LONGEST_MESSAGE], ConfState::zero());
+    let length = plain::write(&lists, &mut bytes) as usize;
+    let message = bytes[..length].to_vec();
+    let plain_read = time(1, || {
+        assert_eq!(plain::read(black_box(&message), &mut read), 0);
+        black_box(&read);
+    });
+    let other_read = time(1, || {
+        assert_eq!(Linked.read_conf_state(black_box(&message), read.words_mut()), 0);
+        black_box(&read);
+    });
+    assert!(read == lists, "it reads what was written");
+    report(&format!("message read, {name}"), plain_read, other_read);
+    let plain_write = time(1, || {
+        assert_eq!(plain::write(black_box(&lists), &mut bytes), length as u64);
+        black_box(&bytes);
+    });
+    let other_write = time(1, || {
+        assert_eq!(Linked.write_conf_state(black_box(lists.words()), &mut bytes), length as u64);
+        black_box(&bytes);
+    });
+    report(&format!("message written, {name}"), plain_write, other_write);
 }

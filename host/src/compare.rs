@@ -1,7 +1,10 @@
-//! One input through the subject, the Rust and the paper. Every word of every reply and every byte of every listing is compared.
+//! One input through the subject, the Rust and the paper. Every word of every reply and every byte of every listing is compared. Messages
+//! are in compare/messages.rs.
 //!
 //! The subject has to agree with the Rust wherever the Rust has an answer (calls.rs, `in_domain`), and with the paper everywhere: also
 //! in which of several faults is named, in refusals that the paper adds, and in the bytes that stay as they were.
+
+pub mod messages;
 
 use crate::beside::{Beside, Share};
 use crate::calls::{self, call_in_domain, in_domain, paper_unplug, removal, same_group, LEAVE_JOINT};
@@ -10,7 +13,7 @@ use crate::oracle::{self, rust_listing, Rust};
 use crate::script::{LONGEST_SCRIPT, NO_ROOM, TOO_LONG};
 use crate::show;
 use crate::subject::Subject;
-use crate::words::{Block, Reply, Request, State, Verdict, REPLY_BYTES, VERDICT_WORDS};
+use crate::words::{Block, ConfState, Reply, Request, State, Verdict, REPLY_BYTES, VERDICT_WORDS};
 use std::hint::black_box;
 
 /// What the subject differs from.
@@ -45,6 +48,10 @@ pub enum Input {
     /// A state and the id that `dimecandle_unplug` is asked about.
     Unplug(Box<State>, u64),
     Script(Vec<u8>),
+    /// Bytes that are read as a message.
+    Message(Vec<u8>),
+    /// Lists that are written as a message.
+    Lists(Box<ConfState>),
     /// A test of its own, which has no smaller form; it says itself what it did.
     Other(String),
 }
@@ -104,16 +111,20 @@ pub struct Comparison<'a> {
     pub with_rust: u64,
     /// calls that the paper accepts
     pub accepted: u64,
+    /// what a group says of its inputs itself
+    pub remark: String,
     other_fault: u64,
-    numbers: [u64; 21],
+    numbers: Numbers,
     pub steps: Steps,
 }
+
+/// How often the paper gave each number.
+pub type Numbers = [u64; 32];
 
 /// What is counted over all groups.
 #[derive(Default)]
 pub struct Totals {
-    /// how often the paper gave each number
-    pub numbers: [u64; 21],
+    pub numbers: Numbers,
     /// answers in which the Rust, walking a hash set, named another fault of the group than the paper does
     pub other_fault: u64,
     pub entries: Entries,
@@ -154,8 +165,9 @@ impl<'a> Comparison<'a> {
             inputs: 0,
             with_rust: 0,
             accepted: 0,
+            remark: String::new(),
             other_fault: 0,
-            numbers: [0; 21],
+            numbers: [0; 32],
             steps: Steps::default(),
         }
     }
@@ -166,6 +178,7 @@ impl<'a> Comparison<'a> {
     pub fn begin(&mut self, group: &'static str, share: Share) {
         (self.inputs, self.with_rust, self.accepted) = (0, 0, 0);
         (self.subject, self.differs) = (self.first, None);
+        self.remark.clear();
         if let Some(second) = &mut self.second {
             second.begin(group, share);
         }

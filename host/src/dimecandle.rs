@@ -15,7 +15,8 @@
 //! The names are those of crate raft 0.7.0: what `Changer::new(&tracker).simple(..)` is there, `tracker.simple(..)` is here; but what
 //! `restore` does there, `restore_step_by_step` does here. Every function answers for every input; none panics, and a refusal leaves the
 //! tracker as it was. The one exception is `restore_step_by_step`, whose accepted steps stay. A set or the tracked ids may hold at most 64
-//! ids, a list of changes and a log 256 entries; longer ones are refused. A library of another layout than this file has is told by what
+//! ids, a list of changes and a log 256 entries; longer ones are refused. `ConfState::read` and `ConfState::write` are for a configuration
+//! that is sent, as protobuf. A library of another layout than this file has is told by what
 //! its entries return: each call is then refused with `OTHER_LAYOUT`.
 
 // a program may call some of it only
@@ -159,6 +160,13 @@ impl fmt::Display for Refused {
             18 => write!(f, "more than one voter would change: enter a joint configuration for that"),
             19 => write!(f, "the script is longer than 65,536 bytes"),
             20 => write!(f, "the listing is longer than the output lent for it"),
+            28 => write!(f, "the message is cut short"),
+            29 => write!(
+                f,
+                "the message has a varint over ten bytes or 64 bits, or a wire type or field number that may not be there"
+            ),
+            30 => write!(f, "the message has more than 64 ids in a list"),
+            31 => write!(f, "the message is longer than the bytes lent for it"),
             OTHER_LAYOUT => write!(f, "libcalls.a has another layout than dimecandle.rs"),
             number => write!(f, "refused with {number}"),
         }
@@ -254,14 +262,60 @@ impl Tracker {
     }
 }
 
+/// As it travels: a message in the Protocol Buffers encoding, with `voters` 1, `learners` 2, `voters_outgoing` 3, `learners_next` 4 and
+/// `auto_leave` 5.
+impl ConfState {
+    /// No message that is written is longer.
+    pub const LONGEST_MESSAGE: usize = 2_574;
+
+    /// Reads a message. Numbers may be packed or single, fields may come in any order, unknown ones are skipped, and the last flag decides.
+    pub fn read(bytes: &[u8]) -> Result<ConfState, Refused> {
+        let mut words = [0; CONF];
+        // the entry reads the one and writes the other, each over its whole length
+        match unsafe { dimecandle_read_conf_state(bytes.as_ptr(), bytes.len(), words.as_mut_ptr(), CONF) } {
+            0 => Ok(conf_state(&words)),
+            TOO_FEW_WORDS => Err(Refused { number: OTHER_LAYOUT, id: 0 }),
+            number => Err(Refused { number, id: 0 }),
+        }
+    }
+
+    /// Writes the message to the front of the bytes, and says how long it is. The bytes after it stay as they are; of a refusal all do.
+    pub fn write(&self, bytes: &mut [u8]) -> Result<usize, Refused> {
+        let mut words = [0; CONF];
+        put_conf_state(&mut words, self);
+        // the entry reads the one and writes the other, each over its whole length
+        let returned = unsafe { dimecandle_write_conf_state(words.as_ptr(), CONF, bytes.as_mut_ptr(), bytes.len()) };
+        match returned.checked_sub(MESSAGE_REFUSED) {
+            None => Ok(returned as usize),
+            Some(MALFORMED) => Err(Refused { number: OTHER_LAYOUT, id: 0 }),
+            Some(number) => Err(Refused { number, id: 0 }),
+        }
+    }
+
+    /// The message in bytes of its own.
+    pub fn to_bytes(&self) -> Result<Vec<u8>, Refused> {
+        let mut bytes = vec![0; ConfState::LONGEST_MESSAGE];
+        let length = self.write(&mut bytes)?;
+        bytes.truncate(length);
+        Ok(bytes)
+    }
+}
+
 // ** The entries, and their words: docs/EMBEDDING.md
 
 unsafe extern "C" {
     fn dimecandle_call(request: *const u8, request_len: usize, reply: *mut u8, reply_len: usize) -> u64;
     fn dimecandle_unplug(state: *const u64, state_len: usize, id: u64, verdict: *mut u64, verdict_len: usize) -> u64;
+    fn dimecandle_read_conf_state(bytes: *const u8, bytes_len: usize, conf_state: *mut u64, conf_state_len: usize) -> u64;
+    fn dimecandle_write_conf_state(conf_state: *const u64, conf_state_len: usize, bytes: *mut u8, bytes_len: usize) -> u64;
 }
 
-/// An entry returns 0, unless it was handed lengths, a call or words that its layout has not.
+/// What the entries on messages return: of reading a message 0, the number of a refusal, or this where their layout has more words; of
+/// writing it a length, or the other and the number of a refusal.
+const TOO_FEW_WORDS: u64 = 100;
+const MESSAGE_REFUSED: u64 = 1 << 32;
+
+/// The other entries return 0, unless it was handed lengths, a call or words that its layout has not.
 fn same_layout(returned: u64) -> Result<(), Refused> {
     match returned {
         0 => Ok(()),
@@ -387,14 +441,7 @@ impl Reply {
     }
 
     fn conf_state(&self) -> ConfState {
-        let lists = &self.words[REPLY_CONF_STATE..];
-        ConfState {
-            voters: ids(lists).to_vec(),
-            learners: ids(&lists[SET..]).to_vec(),
-            voters_outgoing: ids(&lists[2 * SET..]).to_vec(),
-            learners_next: ids(&lists[3 * SET..]).to_vec(),
-            auto_leave: lists[4 * SET] == 1,
-        }
+        conf_state(&self.words[REPLY_CONF_STATE..])
     }
 }
 
@@ -445,6 +492,16 @@ fn put_conf_state(words: &mut [u64], state: &ConfState) {
         put_ids(&mut words[at * SET..], list.iter());
     }
     words[4 * SET] = u64::from(state.auto_leave);
+}
+
+fn conf_state(words: &[u64]) -> ConfState {
+    ConfState {
+        voters: ids(words).to_vec(),
+        learners: ids(&words[SET..]).to_vec(),
+        voters_outgoing: ids(&words[2 * SET..]).to_vec(),
+        learners_next: ids(&words[3 * SET..]).to_vec(),
+        auto_leave: words[4 * SET] == 1,
+    }
 }
 
 fn put_log(words: &mut [u64], log: &MapChange) {

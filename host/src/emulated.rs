@@ -15,6 +15,8 @@ pub struct Emulated;
 thread_local! {
     static CALL: RefCell<Program> = Program::start(option_env!("DIMECANDLE_CALL_PROGRAM"));
     static UNPLUG: RefCell<Program> = Program::start(option_env!("DIMECANDLE_UNPLUG_PROGRAM"));
+    static READ_CONF_STATE: RefCell<Program> = Program::start(option_env!("DIMECANDLE_READ_CONF_STATE_PROGRAM"));
+    static WRITE_CONF_STATE: RefCell<Program> = Program::start(option_env!("DIMECANDLE_WRITE_CONF_STATE_PROGRAM"));
     static REPLAY: RefCell<Program> = Program::start(option_env!("DIMECANDLE_REPLAY_PROGRAM"));
 }
 
@@ -26,14 +28,26 @@ impl Subject for Emulated {
     /// The given bytes are the id and then the state, the lent ones the verdict.
     fn unplug(&self, state: &[u64], id: u64, verdict: &mut [u64]) -> u64 {
         let given: Vec<u8> = [id].iter().chain(state).flat_map(|word| word.to_le_bytes()).collect();
-        // words are bytes too
-        let lent = unsafe { slice::from_raw_parts_mut(verdict.as_mut_ptr().cast(), 8 * verdict.len()) };
-        ask(&UNPLUG, &given, lent)
+        ask(&UNPLUG, &given, bytes_of(verdict))
+    }
+
+    fn read_conf_state(&self, bytes: &[u8], conf_state: &mut [u64]) -> u64 {
+        ask(&READ_CONF_STATE, bytes, bytes_of(conf_state))
+    }
+
+    fn write_conf_state(&self, conf_state: &[u64], bytes: &mut [u8]) -> u64 {
+        let given: Vec<u8> = conf_state.iter().flat_map(|word| word.to_le_bytes()).collect();
+        ask(&WRITE_CONF_STATE, &given, bytes)
     }
 
     fn replay(&self, script: &[u8], out: &mut [u8]) -> u64 {
         ask(&REPLAY, script, out)
     }
+}
+
+/// Words are bytes too.
+fn bytes_of(words: &mut [u64]) -> &mut [u8] {
+    unsafe { slice::from_raw_parts_mut(words.as_mut_ptr().cast(), 8 * words.len()) }
 }
 
 thread_local! {

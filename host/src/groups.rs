@@ -5,6 +5,7 @@ mod bytes;
 mod examples;
 mod idle;
 mod limits;
+pub mod messages;
 mod neighbours;
 pub mod order;
 mod quorums;
@@ -44,11 +45,17 @@ impl Size {
 pub enum Entry {
     Call,
     Unplug,
+    /// the two entries on messages
+    Messages,
+    /// the same, on the stored bytes of two encoders
+    Encoders,
     Replay,
     /// those of libcalls.a through dimecandle.rs: always the linked ones
     Wrapper,
     /// the recorded cases: calls and scripts
     Vectors,
+    /// none: the plain Rust that the bench times beside the entries on messages
+    Plain,
     /// none: the group is about what other groups rest on, and asks nothing of the subject
     None,
 }
@@ -64,7 +71,7 @@ pub struct Group {
 impl Group {
     /// Whether it belongs to the comparison with the Rust, or compares something else: the wrapper, and answers that were recorded.
     pub fn beside_the_rust(&self) -> bool {
-        !matches!(self.entry, Entry::Wrapper | Entry::Vectors)
+        !matches!(self.entry, Entry::Wrapper | Entry::Vectors | Entry::Encoders)
     }
 
     /// Whether it asks the Rust alone, and is nothing without its text.
@@ -78,7 +85,7 @@ const ALL: Share = Share::All;
 const SOME: Share = Share::OneInTwenty;
 
 #[rustfmt::skip]
-pub const GROUPS: [Group; 44] = [
+pub const GROUPS: [Group; 61] = [
     Group { name: "calls: the examples of document 01", entry: Entry::Call, emulated: ALL, run: examples::examples },
     Group { name: "calls: every state over two ids, every list of up to two changes", entry: Entry::Call, emulated: SOME, run: states::two_ids },
     Group { name: "calls: every state over three ids, every single change", entry: Entry::Call, emulated: SOME, run: states::three_ids },
@@ -113,8 +120,25 @@ pub const GROUPS: [Group; 44] = [
     Group { name: "unplug: random states with ids of two roles, faults, idle boxes, id 0", entry: Entry::Unplug, emulated: SOME, run: unplug::faulty },
     Group { name: "unplug: random malformed states", entry: Entry::Unplug, emulated: SOME, run: unplug::malformed },
     Group { name: "unplug: lengths, words that no field can hold", entry: Entry::Unplug, emulated: ALL, run: unplug::words },
+    Group { name: "messages: examples worked by hand", entry: Entry::Messages, emulated: ALL, run: messages::examples },
+    Group { name: "messages: every byte string of up to two bytes", entry: Entry::Messages, emulated: SOME, run: messages::short },
+    Group { name: "messages: every prefix of good ones", entry: Entry::Messages, emulated: SOME, run: messages::prefixes },
+    Group { name: "messages: damaged", entry: Entry::Messages, emulated: SOME, run: messages::damaged },
+    Group { name: "messages: random bytes", entry: Entry::Messages, emulated: SOME, run: messages::random_bytes },
+    Group { name: "messages: random fields", entry: Entry::Messages, emulated: SOME, run: messages::random_fields },
+    Group { name: "messages: varints of 1 to 13 bytes as every part", entry: Entry::Messages, emulated: ALL, run: messages::varints },
+    Group { name: "messages: lengths near 2^31, 2^32, 2^63 and 2^64", entry: Entry::Messages, emulated: ALL, run: messages::lengths },
+    Group { name: "messages: field numbers 0 to 2^61 - 1, every wire type", entry: Entry::Messages, emulated: ALL, run: messages::numbers },
+    Group { name: "messages: lists of 62 to 67 in every form", entry: Entry::Messages, emulated: ALL, run: messages::long_lists },
+    Group { name: "messages: words lent to the reader", entry: Entry::Messages, emulated: ALL, run: messages::read_edges },
+    Group { name: "messages: random lists written, in every buffer, and read back", entry: Entry::Messages, emulated: SOME, run: messages::write_random },
+    Group { name: "messages: ids and lists of every size written, and read back", entry: Entry::Messages, emulated: ALL, run: messages::write_sizes },
+    Group { name: "messages: words, counts, flags and buffers that the writer refuses", entry: Entry::Messages, emulated: ALL, run: messages::write_edges },
+    Group { name: "messages: the stored bytes of two encoders", entry: Entry::Encoders, emulated: ALL, run: messages::encoders },
+    Group { name: "messages: the plain Rust that the bench times", entry: Entry::Plain, emulated: ALL, run: messages::plain },
     Group { name: "vectors: every case of crates/vectors", entry: Entry::Vectors, emulated: ALL, run: vectors::vectors },
     Group { name: "wrapper: dimecandle.rs on random states", entry: Entry::Wrapper, emulated: SOME, run: wrapper::wrapper },
+    Group { name: "wrapper: dimecandle.rs on messages", entry: Entry::Wrapper, emulated: SOME, run: wrapper::messages },
     Group { name: "scripts: the listing of document 01", entry: Entry::Replay, emulated: ALL, run: scripts::example },
     Group { name: "scripts: every one of a few records over two ids", entry: Entry::Replay, emulated: ALL, run: scripts::every },
     Group { name: "scripts: random over few ids", entry: Entry::Replay, emulated: ALL, run: scripts::few_ids },

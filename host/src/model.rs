@@ -1,4 +1,5 @@
-//! A model of the paper: document 01 in plain Rust, written from its sentences and not from the Rust text.
+//! A model of the paper: document 01 in plain Rust, written from its sentences and not from the Rust text. What it answers to a message is
+//! in message.rs.
 //!
 //! It has three uses. It says what is right where the Rust has no answer (refusals 1, 2, 3, 16, 19, 20, and which of several faults
 //! is named). It stands in the place of a static library that is not there. And it carries rules that are wrong on purpose
@@ -28,7 +29,7 @@ impl Model {
         Model { wrong: Some(wrong) }
     }
 
-    fn has(&self, rule: Wrong) -> bool {
+    pub fn has(&self, rule: Wrong) -> bool {
         self.wrong == Some(rule)
     }
 }

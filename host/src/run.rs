@@ -15,13 +15,16 @@ const HELP: &str = "host: the proved code beside the Rust that it was carried ov
                   --model       compares the model of the paper in the place of the libraries
                   --only WORDS  only the groups whose name has these words
                   --part rust   only the comparison with the Rust: 77 where its text was not found
-                  --part rest   only what the other part leaves: the wrapper and the fixed vectors; and where
-                                the text was not found, every group beside the model of the paper alone
+                  --part rest   only what the other part leaves: the wrapper, the fixed vectors and the stored bytes of two
+                                encoders; and where the text was not found, every group beside the model of the
+                                paper alone
   host vectors [FOLDER]
                   writes a fixed sample of the Rust's answers, the files stdin and stdout of the program
                   vectors (VECTORS.md); usual folder: crates/vectors
-  host bench      times both on the same calls and scripts, and says whose code on which processor it timed
-  host stack      measures the peak stack of each call and of a script, within its bound; ends in `N passed, M failed`
+  host bench      times both on the same calls and scripts, and messages beside plain Rust, and says whose code on which
+                  processor it timed
+  host stack      measures the peak stack of each call, of a script and of messages, within its bound; ends in
+                  `N passed, M failed`
   host --help     prints this
 
 Exit status: 0 all passed, 1 something differs, 2 bad usage, 77 it cannot run here (no Rust text, no library; of bench also:

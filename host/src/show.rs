@@ -1,7 +1,9 @@
 //! Inputs and differences in words.
 
 use crate::calls::{self, Takes};
+use crate::compare::messages::Reading;
 use crate::compare::Input;
+use crate::message::REFUSED;
 use crate::model::Set;
 use crate::script::RECORD;
 use crate::words::{Block, Conf, ConfState, Entry, Ids, List, Log, Record, Reply, Request, State, Verdict, REMOVE};
@@ -15,6 +17,8 @@ pub fn input(input: &Input) -> String {
         Input::State(words) => format!("asked of in order, left, written out and restored: {}", state(&words.state)),
         Input::Unplug(words, id) => unplug(words, *id),
         Input::Script(bytes) => script(bytes),
+        Input::Message(bytes) => message(bytes),
+        Input::Lists(lists) => format!("written: {}", conf_state(lists)),
         Input::Other(text) => text.clone(),
     }
 }
@@ -63,7 +67,7 @@ pub fn conf(conf: &Conf) -> String {
     format!("incoming {incoming} outgoing {outgoing} learners {learners} staged {staged} auto_leave {flag}")
 }
 
-fn conf_state(lists: &ConfState) -> String {
+pub fn conf_state(lists: &ConfState) -> String {
     let [voters, learners, outgoing, next] = lists.lists().map(ids);
     let flag = lists.auto_leave;
     format!("voters {voters} learners {learners} voters_outgoing {outgoing} learners_next {next} auto_leave {flag}")
@@ -119,6 +123,41 @@ fn spaced(items: impl Iterator<Item = String>) -> String {
 /// Two verdicts: the subject's first.
 pub fn verdicts([number, id]: Verdict, expected: Verdict) -> String {
     format!("number: subject {number} id {id}, expected {} id {}", expected[0], expected[1])
+}
+
+/// A message, its bytes in hex.
+pub fn message(bytes: &[u8]) -> String {
+    format!("message of {} bytes: {}", bytes.len(), hex(bytes))
+}
+
+pub fn hex(bytes: &[u8]) -> String {
+    let shown: Vec<String> = bytes.iter().map(|byte| format!("{byte:02x}")).collect();
+    if shown.is_empty() {
+        "none".to_string()
+    } else {
+        shown.join(" ")
+    }
+}
+
+/// What the writer of messages returned.
+pub fn written(returned: u64) -> String {
+    match returned.checked_sub(REFUSED) {
+        None => format!("the length {returned}"),
+        Some(number) => format!("2^32 + {number}"),
+    }
+}
+
+/// Where two readings of a message differ: the subject's first.
+pub fn readings(subject: &Reading, expected: &Reading) -> String {
+    let mut lines = vec![];
+    if subject.number != expected.number {
+        lines.push(format!("number: subject {}, expected {}", subject.number, expected.number));
+    }
+    if subject.lists != expected.lists {
+        lines.push(format!("subject {}", conf_state(&subject.lists)));
+        lines.push(format!("expected {}", conf_state(&expected.lists)));
+    }
+    lines.join("\n")
 }
 
 /// Where two replies differ: the subject's first.

@@ -1,10 +1,11 @@
-//! Makes an input that shows a difference smaller, as long as it shows one: shorter lists, fewer ids, smaller numbers.
+//! Makes an input that shows a difference smaller, as long as it shows one: shorter lists, fewer ids, smaller numbers, fewer bytes.
 
 use crate::calls::removal;
 use crate::compare::{Against, Comparison, Difference, Input, Room};
 use crate::groups::{order, wrapper};
+use crate::message::varint;
 use crate::script::RECORD;
-use crate::words::{Block, Entry, Ids, List, Log, Record, Request, CAPACITY, LIST_PLACES, LOG_PLACES, REMOVE_NODE};
+use crate::words::{Block, ConfState, Entry, Ids, List, Log, Record, Request, CAPACITY, LIST_PLACES, LOG_PLACES, REMOVE_NODE};
 use std::collections::BTreeMap;
 
 /// The smallest input found that differs from the same side, and how.
@@ -35,6 +36,16 @@ pub fn smallest(comparison: &mut Comparison, input: Input, against: Against) -> 
             let small = script(bytes, &mut |tried| same(comparison.script_difference(tried, &Room::ALL)).is_some());
             let difference = same(comparison.script_difference(&small, &Room::ALL));
             (Input::Script(small), difference)
+        }
+        Input::Message(bytes) => {
+            let small = message(bytes, &mut |tried| same(comparison.message_difference(tried)).is_some());
+            let difference = same(comparison.message_difference(&small));
+            (Input::Message(small), difference)
+        }
+        Input::Lists(written) => {
+            let small = lists(*written, &mut |tried| same(comparison.lists_difference(tried)).is_some());
+            let difference = same(comparison.lists_difference(&small));
+            (Input::Lists(small), difference)
         }
         other => (other, None),
     }
@@ -195,11 +206,11 @@ fn script(bytes: Vec<u8>, fails: &mut dyn FnMut(&[u8]) -> bool) -> Vec<u8> {
         let before = best.clone();
         let mut run = (best.len() / RECORD).next_power_of_two();
         while run > 0 {
-            cut_records(&mut best, run * RECORD, fails);
+            cut_runs(&mut best, run * RECORD, fails);
             run /= 2;
         }
         if best.len() <= 400 * RECORD {
-            cut_records(&mut best, 1, fails);
+            cut_runs(&mut best, 1, fails);
             small_numbers(&mut best, fails);
         }
         if best == before {
@@ -208,7 +219,8 @@ fn script(bytes: Vec<u8>, fails: &mut dyn FnMut(&[u8]) -> bool) -> Vec<u8> {
     }
 }
 
-fn cut_records(best: &mut Vec<u8>, step: usize, fails: &mut dyn FnMut(&[u8]) -> bool) {
+/// Takes out runs of so many bytes.
+fn cut_runs(best: &mut Vec<u8>, step: usize, fails: &mut dyn FnMut(&[u8]) -> bool) {
     let mut end = best.len();
     while end >= step {
         let tried = [&best[..end - step], &best[end..]].concat();
@@ -234,4 +246,90 @@ fn small_numbers(best: &mut Vec<u8>, fails: &mut dyn FnMut(&[u8]) -> bool) {
             }
         }
     }
+}
+
+// ** Messages
+
+/// A message whose every run of bytes is tried.
+const SHORT: usize = 100;
+
+/// Takes out numbers and runs of bytes, and makes bytes small, as long as that helps.
+fn message(bytes: Vec<u8>, fails: &mut dyn FnMut(&[u8]) -> bool) -> Vec<u8> {
+    let mut best = bytes;
+    loop {
+        let before = best.clone();
+        (0..best.len()).for_each(|place| cut_numbers(&mut best, place, fails));
+        let mut run = best.len().next_power_of_two();
+        while run > 0 {
+            cut_runs(&mut best, run, fails);
+            run /= 2;
+        }
+        if best.len() <= SHORT {
+            cut_any_run(&mut best, fails);
+        }
+        (0..best.len()).for_each(|place| small_byte(&mut best, place, fails));
+        if best == before {
+            return best;
+        }
+    }
+}
+
+fn cut_any_run(best: &mut Vec<u8>, fails: &mut dyn FnMut(&[u8]) -> bool) {
+    for run in (1..=best.len()).rev() {
+        let mut from = 0;
+        while from + run <= best.len() {
+            let tried = [&best[..from], &best[from + run..]].concat();
+            if fails(&tried) {
+                *best = tried;
+            } else {
+                from += 1;
+            }
+        }
+    }
+}
+
+/// If a length may be at this place: takes out runs of the numbers behind it, and gives single ones the shortest form of 0.
+fn cut_numbers(best: &mut Vec<u8>, place: usize, fails: &mut dyn FnMut(&[u8]) -> bool) {
+    for (run, put) in [(64, &[][..]), (16, &[]), (4, &[]), (1, &[]), (1, &[0])] {
+        let mut first = 0;
+        while let Some(tried) = with_numbers(best, place, first, run, put) {
+            if tried.len() < best.len() && fails(&tried) {
+                *best = tried;
+            } else {
+                first += run;
+            }
+        }
+    }
+}
+
+/// The message with something else in the place of a run of packed numbers, whose length is at this place; none where there are no such
+/// numbers.
+fn with_numbers(bytes: &[u8], place: usize, first: usize, run: usize, put: &[u8]) -> Option<Vec<u8>> {
+    let ends = |byte: &u8| *byte < 0x80;
+    let length_ends = place + 1 + bytes.get(place..)?.iter().take(2).position(ends)?;
+    let length = bytes[place..length_ends].iter().rev().fold(0, |length, byte| length << 7 | usize::from(byte & 0x7f));
+    let payload = bytes.get(length_ends..length_ends + length)?;
+    let numbers: Vec<&[u8]> = payload.split_inclusive(ends).collect();
+    let (before, rest) = numbers.split_at_checked(first).filter(|(_, rest)| !rest.is_empty())?;
+    let kept = [&before.concat(), put, &rest[run.min(rest.len())..].concat()].concat();
+    Some([&bytes[..place], &varint(kept.len() as u64), &kept, &bytes[length_ends + length..]].concat())
+}
+
+/// A byte becomes the smallest that still shows the difference.
+fn small_byte(best: &mut Vec<u8>, place: usize, fails: &mut dyn FnMut(&[u8]) -> bool) {
+    for byte in 0..best[place] {
+        let mut tried = best.clone();
+        tried[place] = byte;
+        if fails(&tried) {
+            *best = tried;
+            break;
+        }
+    }
+}
+
+/// Takes out ids, and makes words 0 or 1: by the lists of a request.
+fn lists(written: ConfState, fails: &mut dyn FnMut(&ConfState) -> bool) -> Box<ConfState> {
+    let mut request = Request::new(0);
+    request.conf_state = written;
+    Box::new(call(*request, &mut |tried| fails(&tried.conf_state)).conf_state)
 }

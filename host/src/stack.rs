@@ -1,25 +1,30 @@
-//! The peak stack of each call and of a script, of the x86-64 code: the entry is run on a thread whose stack was filled with a pattern, and
-//! what it wrote over is looked for. Of emulated code the program around it does the same (emulated.c). Each has to keep within its bound.
-//! `dimecandle_unplug` takes less than can be told apart here: unplug.c measures it.
+//! The peak stack of each call, of a script and of messages, of the x86-64 code: the entry is run on a thread whose stack was filled with a
+//! pattern, and what it wrote over is looked for. Of emulated code the program around it does the same (emulated.c). Each has to keep within
+//! its bound. `dimecandle_unplug` and the two entries on messages take less than can be told apart here: unplug.c and messages.c measure them.
 
 use crate::calls::CALLS;
 #[cfg(emulated)]
 use crate::emulated::{peak, Emulated as Entries};
 use crate::generate;
+use crate::groups::messages::{some_lists, some_message};
 use crate::groups::scripts::{longest_listing, script};
+use crate::message::{packed, LONGEST_MESSAGE};
 use crate::random::Random;
 use crate::run::CANNOT_RUN;
 #[cfg(not(emulated))]
 use crate::subject::Linked as Entries;
 use crate::subject::{say_missing, Subject, CALLS_AT_HAND, EMULATED, EMULATED_CODE, LISTING_AT_HAND, STATIC_CODE};
-use crate::words::{Block, Request, CAPACITY, REPLY_BYTES};
+use crate::words::{Block, ConfState, Request, CAPACITY, REPLY_BYTES};
 use std::process::ExitCode;
 
-/// What an entry may take.
+/// What a call and a script may take.
 const BOUND: usize = 128 << 10;
 
+/// What reading and writing a message may take: less than a list.
+const BOUND_OF_MESSAGES: usize = 512;
+
 /// What is not filled, so that less than this cannot be told apart: the frames of the measuring function and of the one that fills are here.
-const MARGIN: usize = 2 << 10;
+const MARGIN: usize = 256;
 
 pub fn run() -> ExitCode {
     if !CALLS_AT_HAND || !LISTING_AT_HAND {
@@ -27,20 +32,58 @@ pub fn run() -> ExitCode {
         return ExitCode::from(CANNOT_RUN);
     }
     println!("{}", if EMULATED { EMULATED_CODE } else { STATIC_CODE });
-    let calls = CALLS.iter().map(|call| (format!("dimecandle_call, {}", call.name), peak_of_call(call.number)));
-    let replay = ("dimecandle_replay, the longest listing".to_string(), peak_of_replay());
-    let peaks: Vec<(String, usize)> = calls.chain([replay]).collect();
-    let passed = peaks.iter().filter(|(name, peak)| report(name, *peak)).count();
+    let calls = CALLS.iter().map(|call| (format!("dimecandle_call, {}", call.name), peak_of_call(call.number), BOUND));
+    let others = [
+        ("dimecandle_read_conf_state".to_string(), peak_of_reading(), BOUND_OF_MESSAGES),
+        ("dimecandle_write_conf_state".to_string(), peak_of_writing(), BOUND_OF_MESSAGES),
+        ("dimecandle_replay, the longest listing".to_string(), peak_of_replay(), BOUND),
+    ];
+    let peaks: Vec<(String, usize, usize)> = calls.chain(others).collect();
+    let passed = peaks.iter().filter(|(name, peak, bound)| report(name, *peak, *bound)).count();
     let failed = peaks.len() - passed;
     println!("{passed} passed, {failed} failed");
     ExitCode::from(u8::from(failed > 0))
 }
 
-/// Whether it is within the bound; and above the margin, since else nothing was measured.
-fn report(name: &str, peak: usize) -> bool {
-    let within = MARGIN < peak && peak <= BOUND;
-    println!("{}  {name:44}{peak:>9} bytes of {BOUND}", if within { "passed" } else { "FAILED" });
+/// Whether it is within the bound. A call or a script that takes no more than the margin was not measured; a message may take less.
+fn report(name: &str, peak: usize, bound: usize) -> bool {
+    let told_apart = MARGIN < peak;
+    let within = 0 < peak && peak <= bound && (told_apart || bound == BOUND_OF_MESSAGES);
+    let shown = if told_apart { peak.to_string() } else { format!("up to {MARGIN}") };
+    println!("{}  {name:44}{shown:>9} bytes of {bound}", if within { "passed" } else { "FAILED" });
     within
+}
+
+/// How many random messages and lists are tried.
+const MESSAGES: usize = 100;
+
+/// The most over random messages, accepted and refused, and the longest one.
+fn peak_of_reading() -> usize {
+    let mut random = Random::new(1, "stack");
+    let longest = (1..=4).flat_map(|list| packed(list, &[u64::MAX; CAPACITY])).collect();
+    let messages: Vec<Vec<u8>> = (0..MESSAGES).map(|_| some_message(&mut random)).chain([longest]).collect();
+    let mut lists = ConfState::zero();
+    let peaks = messages.iter().map(|message| {
+        peak(|| {
+            Entries.read_conf_state(message, lists.words_mut());
+        })
+    });
+    peaks.max().unwrap_or(0)
+}
+
+/// The most over random lists, written whole and refused for want of room.
+fn peak_of_writing() -> usize {
+    let mut random = Random::new(1, "stack");
+    let mut bytes = vec![0; LONGEST_MESSAGE];
+    let mut most = 0;
+    for room in (0..MESSAGES).map(|number| if number % 4 == 0 { number } else { LONGEST_MESSAGE }) {
+        let lists = some_lists(&mut random);
+        let write = || {
+            Entries.write_conf_state(lists.words(), &mut bytes[..room]);
+        };
+        most = most.max(peak(write));
+    }
+    most
 }
 
 fn peak_of_replay() -> usize {

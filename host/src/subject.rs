@@ -1,4 +1,4 @@
-//! What is compared with the Rust: the three C entries, two on bytes and one on words; and whose code they are.
+//! What is compared: the five C entries, on bytes and on words; and whose code they are.
 
 use crate::emulated::Emulated;
 use crate::model::Model;
@@ -9,6 +9,12 @@ pub trait Subject {
 
     /// `dimecandle_unplug` of the same library.
     fn unplug(&self, state: &[u64], id: u64, verdict: &mut [u64]) -> u64;
+
+    /// `dimecandle_read_conf_state` of the same library: a message read into the words of a CONFSTATE.
+    fn read_conf_state(&self, bytes: &[u8], conf_state: &mut [u64]) -> u64;
+
+    /// `dimecandle_write_conf_state` of the same library: the message of a CONFSTATE, written to the front of the bytes.
+    fn write_conf_state(&self, conf_state: &[u64], bytes: &mut [u8]) -> u64;
 
     /// `dimecandle_replay` of the library `listing`: document 01, "The replay script".
     fn replay(&self, script: &[u8], out: &mut [u8]) -> u64;
@@ -62,6 +68,14 @@ mod c {
     extern "C" {
         pub fn dimecandle_call(request: *const u8, request_len: usize, reply: *mut u8, reply_len: usize) -> u64;
         pub fn dimecandle_unplug(state: *const u64, state_len: usize, id: u64, verdict: *mut u64, verdict_len: usize) -> u64;
+        pub fn dimecandle_read_conf_state(bytes: *const u8, bytes_len: usize, conf_state: *mut u64, conf_state_len: usize)
+            -> u64;
+        pub fn dimecandle_write_conf_state(
+            conf_state: *const u64,
+            conf_state_len: usize,
+            bytes: *mut u8,
+            bytes_len: usize,
+        ) -> u64;
         pub fn dimecandle_replay(script: *const u8, n: usize, out: *mut u8, m: usize) -> u64;
     }
 }
@@ -73,6 +87,14 @@ impl Subject for Linked {
 
     fn unplug(&self, state: &[u64], id: u64, verdict: &mut [u64]) -> u64 {
         unsafe { c::dimecandle_unplug(state.as_ptr(), state.len(), id, verdict.as_mut_ptr(), verdict.len()) }
+    }
+
+    fn read_conf_state(&self, bytes: &[u8], conf_state: &mut [u64]) -> u64 {
+        unsafe { c::dimecandle_read_conf_state(bytes.as_ptr(), bytes.len(), conf_state.as_mut_ptr(), conf_state.len()) }
+    }
+
+    fn write_conf_state(&self, conf_state: &[u64], bytes: &mut [u8]) -> u64 {
+        unsafe { c::dimecandle_write_conf_state(conf_state.as_ptr(), conf_state.len(), bytes.as_mut_ptr(), bytes.len()) }
     }
 
     fn replay(&self, script: &[u8], out: &mut [u8]) -> u64 {
@@ -87,6 +109,14 @@ impl Subject for Model {
 
     fn unplug(&self, state: &[u64], id: u64, verdict: &mut [u64]) -> u64 {
         Model::unplug(self, state, id, verdict)
+    }
+
+    fn read_conf_state(&self, bytes: &[u8], conf_state: &mut [u64]) -> u64 {
+        Model::read_conf_state(self, bytes, conf_state)
+    }
+
+    fn write_conf_state(&self, conf_state: &[u64], bytes: &mut [u8]) -> u64 {
+        Model::write_conf_state(self, conf_state, bytes)
     }
 
     fn replay(&self, script: &[u8], out: &mut [u8]) -> u64 {
@@ -112,6 +142,16 @@ mod calls_in_place {
     #[no_mangle]
     unsafe extern "C" fn dimecandle_unplug(state: *const u64, n: usize, id: u64, verdict: *mut u64, m: usize) -> u64 {
         CALLS.unplug(slice::from_raw_parts(state, n), id, slice::from_raw_parts_mut(verdict, m))
+    }
+
+    #[no_mangle]
+    unsafe extern "C" fn dimecandle_read_conf_state(bytes: *const u8, n: usize, conf_state: *mut u64, m: usize) -> u64 {
+        CALLS.read_conf_state(slice::from_raw_parts(bytes, n), slice::from_raw_parts_mut(conf_state, m))
+    }
+
+    #[no_mangle]
+    unsafe extern "C" fn dimecandle_write_conf_state(conf_state: *const u64, n: usize, bytes: *mut u8, m: usize) -> u64 {
+        CALLS.write_conf_state(slice::from_raw_parts(conf_state, n), slice::from_raw_parts_mut(bytes, m))
     }
 }
 

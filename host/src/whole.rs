@@ -65,11 +65,11 @@ impl Options {
 /// Why the library of an entry is not there; empty where it is.
 fn missing(entry: Entry) -> &'static str {
     match entry {
-        Entry::Call | Entry::Unplug | Entry::Wrapper => CALLS_MISSING,
+        Entry::Call | Entry::Unplug | Entry::Messages | Entry::Encoders | Entry::Wrapper => CALLS_MISSING,
         Entry::Replay => LISTING_MISSING,
         Entry::Vectors if CALLS_MISSING.is_empty() => LISTING_MISSING,
         Entry::Vectors => CALLS_MISSING,
-        Entry::None => "",
+        Entry::None | Entry::Plain => "",
     }
 }
 
@@ -162,7 +162,8 @@ fn run(group: &Group, options: &Options) -> OfGroup {
     let mut random = Random::new(options.seed, group.name);
     let result = (group.run)(&mut comparison, &mut random, options.size);
     let inputs = comparison.inputs;
-    let asked = if group.entry == Entry::None { [0; 2] } else { [inputs, comparison.asked_second().unwrap_or(0)] };
+    let asked =
+        if matches!(group.entry, Entry::None | Entry::Plain) { [0; 2] } else { [inputs, comparison.asked_second().unwrap_or(0)] };
     let (outcome, said) = match result {
         Ok(()) => {
             let (counts, seconds) = (counts_of(&comparison, group.entry), start.elapsed().as_secs_f64());
@@ -178,10 +179,13 @@ fn run(group: &Group, options: &Options) -> OfGroup {
 
 /// What was asked in a group.
 fn counts_of(comparison: &Comparison, entry: Entry) -> String {
-    let Comparison { inputs, with_rust, accepted, .. } = comparison;
+    let Comparison { inputs, with_rust, accepted, remark, .. } = comparison;
     let mut counts = match entry {
         Entry::Call | Entry::Unplug => format!("{inputs} inputs, {with_rust} with the Rust, {accepted} accepted"),
+        Entry::Messages => format!("{inputs} inputs, {accepted} accepted"),
+        Entry::Encoders => format!("{inputs} inputs, {remark}"),
         Entry::Replay | Entry::Wrapper | Entry::Vectors => format!("{inputs} inputs, {with_rust} with the Rust"),
+        Entry::Plain => return format!("{inputs} inputs, {accepted} accepted, nothing asked of the subject"),
         Entry::None if *inputs > 0 => return format!("{inputs} inputs of the Rust alone"),
         Entry::None => return "nothing asked of the subject".to_string(),
     };
@@ -249,17 +253,22 @@ impl Counts {
     }
 }
 
-/// "Number 13 is kept for the Rust's message but never given".
+/// "Number 13 is kept for the Rust's message but never given"; 21 to 27 are those of requests that are not here.
+fn is_given(number: usize) -> bool {
+    !matches!(number, 13 | 21..=27)
+}
+
 fn every_number_met(totals: &Totals) -> bool {
     let Totals { numbers, other_fault, entries, .. } = totals;
-    let met: Vec<String> = numbers.iter().enumerate().map(|(number, count)| format!("{number}: {count}")).collect();
+    let counted = numbers.iter().enumerate().filter(|(number, count)| is_given(*number) || **count > 0);
+    let met: Vec<String> = counted.map(|(number, count)| format!("{number}: {count}")).collect();
     println!("answers by number: {}", met.join(", "));
     if oracle::AT_HAND {
         println!("the Rust named another fault of the group than the paper {other_fault} times");
         let (plainly, repaired) = (entries.plainly, entries.repaired);
         println!("entries of accepted lists: {plainly} judged by plain prefixes, {repaired} with one more voter and repairs");
     }
-    let as_it_should = numbers.iter().enumerate().all(|(number, &count)| (count > 0) == (number != 13));
-    println!("{}  every number was met but 13, which was not", if as_it_should { "passed" } else { "FAILED" });
+    let as_it_should = numbers.iter().enumerate().all(|(number, &count)| (count > 0) == is_given(number));
+    println!("{}  every number was met but 13 and 21 to 27, which were not", if as_it_should { "passed" } else { "FAILED" });
     as_it_should
 }

@@ -1,4 +1,5 @@
-//! The byte layout of `dimecandle_call`, whose state is also that of `dimecandle_unplug`: docs/EMBEDDING.md, block by block.
+//! The byte layout of `dimecandle_call`, whose state is also that of `dimecandle_unplug` and whose lists are also those of the two entries
+//! on messages: docs/EMBEDDING.md, block by block.
 //!
 //! Every block is a `#[repr(C)]` struct of `u64`, so a value of it is its own bytes on a little-endian processor. A flag, a state or a
 //! kind is kept as the whole word that it travels in: these types also hold what is malformed, and words that no field can hold.
@@ -120,8 +121,9 @@ pub const REQUEST_BYTES: usize = 20_216;
 pub const REPLY_BYTES: usize = 13_960;
 pub const STATE_WORDS: usize = 967;
 pub const VERDICT_WORDS: usize = 2;
+pub const CONF_STATE_WORDS: usize = 261;
 const _: () = assert!(size_of::<Request>() == REQUEST_BYTES && size_of::<Reply>() == REPLY_BYTES);
-const _: () = assert!(size_of::<State>() == 8 * STATE_WORDS);
+const _: () = assert!(size_of::<State>() == 8 * STATE_WORDS && size_of::<ConfState>() == 8 * CONF_STATE_WORDS);
 
 /// A struct of nothing but `u64`.
 ///

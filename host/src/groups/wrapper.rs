@@ -1,4 +1,9 @@
-//! dimecandle.rs: what a user's program calls. Each call goes through it, and its result is compared with the reply that is right.
+//! dimecandle.rs: what a user's program calls. Each call goes through it, and its result is compared with the reply that is right. Messages
+//! are in wrapper/messages.rs.
+
+mod messages;
+
+pub use messages::messages;
 
 use super::Size;
 use crate::calls::*;

@@ -1,10 +1,12 @@
-//! The three C entries, on the model: docs/EMBEDDING.md, and document 01's last lines on the replay script.
+//! The five C entries, on the model: docs/EMBEDDING.md, document 02, k), and document 01's last lines on the replay script.
 
-use super::{Model, Replayed, Wrong};
+use super::{ConfState, Model, Replayed, Wrong};
 use crate::calls;
+use crate::message::{self, NO_ROOM_FOR_IT, REFUSED, UNREAD};
 use crate::script::{listing, LONGEST_SCRIPT, NO_ROOM, TOO_LONG};
 use crate::words::{
-    Block, Conf, List, Log, Reply, Request, State, LIST_PLACES, REPLY_BYTES, REQUEST_BYTES, STATE_WORDS, VERDICT_WORDS,
+    self, Block, Conf, List, Log, Reply, Request, State, CONF_STATE_WORDS, LIST_PLACES, REPLY_BYTES, REQUEST_BYTES, STATE_WORDS,
+    VERDICT_WORDS,
 };
 
 impl Model {
@@ -50,6 +52,44 @@ impl Model {
         }
         verdict[..VERDICT_WORDS].copy_from_slice(&calls::paper_unplug(self, &words, id));
         0
+    }
+
+    /// `dimecandle_read_conf_state`
+    pub fn read_conf_state(&self, bytes: &[u8], conf_state: &mut [u64]) -> u64 {
+        if conf_state.len() < CONF_STATE_WORDS {
+            return UNREAD;
+        }
+        let (number, read) = message::read(self, bytes);
+        let mut words = words::ConfState::zero();
+        read.write(&mut words);
+        conf_state[..CONF_STATE_WORDS].copy_from_slice(words.words());
+        number
+    }
+
+    /// `dimecandle_write_conf_state`: "the writer first refuses lists over 64 with 2", "31, output too small, buffer untouched". 1 is where
+    /// the words are no CONFSTATE.
+    pub fn write_conf_state(&self, conf_state: &[u64], bytes: &mut [u8]) -> u64 {
+        if conf_state.len() != CONF_STATE_WORDS {
+            return REFUSED + 1;
+        }
+        let mut words = words::ConfState::zero();
+        words.words_mut().copy_from_slice(conf_state);
+        if words.auto_leave > 1 {
+            return REFUSED + 1;
+        }
+        if self.has(Wrong::RoomBeforeCounts) && message::written(self, &ConfState::used(&words)).len() > bytes.len() {
+            return NO_ROOM_FOR_IT;
+        }
+        let Some(lists) = ConfState::read(&words) else { return REFUSED + 2 };
+        let message = message::written(self, &lists);
+        if message.len() > bytes.len() {
+            if self.has(Wrong::WritesWhatFits) {
+                bytes.copy_from_slice(&message[..bytes.len()]);
+            }
+            return NO_ROOM_FOR_IT;
+        }
+        bytes[..message.len()].copy_from_slice(&message);
+        message.len() as u64
     }
 
     /// `dimecandle_replay`

@@ -157,11 +157,14 @@ fn entry_words(entry: &Entry) -> words::Entry {
 impl ConfState {
     /// The lists that the words hold, unless one is too long. Places after the count are not looked at.
     pub fn read(words: &words::ConfState) -> Option<ConfState> {
-        if words.lists().iter().any(|list| list.count > words::CAPACITY as u64) {
-            return None;
-        }
+        let too_long = words.lists().iter().any(|list| list.count > words::CAPACITY as u64);
+        (!too_long).then(|| ConfState::used(words))
+    }
+
+    /// The lists that the words hold; of one that is too long its 64 places.
+    pub fn used(words: &words::ConfState) -> ConfState {
         let [voters, learners, voters_outgoing, learners_next] = words.lists().map(|list| list.used().to_vec());
-        Some(ConfState { voters, learners, voters_outgoing, learners_next, auto_leave: words.auto_leave == 1 })
+        ConfState { voters, learners, voters_outgoing, learners_next, auto_leave: words.auto_leave == 1 }
     }
 
     pub fn write(&self, words: &mut words::ConfState) {

@@ -1,6 +1,6 @@
 //! Rules that are wrong on purpose. Document 01, "Errors a porter would make", and others of the kind, also for the count of document 02's
-//! b), the question of its d), the two restores of its g), the part that its h) adds to in order and what its i) rests on. Each is one test
-//! in model/rules.rs or model/entries.rs.
+//! b), the question of its d), the two restores of its g), the part that its h) adds to in order, what its i) rests on and the messages of
+//! its k). Each is one test in model/rules.rs, model/entries.rs or message.rs.
 
 /// One wrong rule; `sentence` says which.
 #[derive(Clone, Copy, Debug, PartialEq, Eq)]
@@ -50,12 +50,27 @@ pub enum Wrong {
     UnplugWithoutTheCheck,
     TwoVotersChange,
     OldVotersNotKept,
+    LastListWins,
+    CutVarintTaken,
+    ThirtyBeforeTwentyNine,
+    TwentyNineBeforeTwentyEight,
+    UnpackedOnly,
+    FirstFlagDecides,
+    TenthByteLetIn,
+    UnknownFieldsRefused,
+    FieldZeroLetIn,
+    SixtyFiveLetIn,
+    RefusedListsKept,
+    WritesEmptyLists,
+    WritesSingly,
+    RoomBeforeCounts,
+    WritesWhatFits,
 }
 
 use Wrong::*;
 
 impl Wrong {
-    pub const ALL: [Wrong; 45] = [
+    pub const ALL: [Wrong; 60] = [
         CountsChanges,
         TwelveAsTheTextSays,
         CancelsInTheLog,
@@ -101,6 +116,21 @@ impl Wrong {
         UnplugWithoutTheCheck,
         TwoVotersChange,
         OldVotersNotKept,
+        LastListWins,
+        CutVarintTaken,
+        ThirtyBeforeTwentyNine,
+        TwentyNineBeforeTwentyEight,
+        UnpackedOnly,
+        FirstFlagDecides,
+        TenthByteLetIn,
+        UnknownFieldsRefused,
+        FieldZeroLetIn,
+        SixtyFiveLetIn,
+        RefusedListsKept,
+        WritesEmptyLists,
+        WritesSingly,
+        RoomBeforeCounts,
+        WritesWhatFits,
     ];
 
     pub fn sentence(self) -> &'static str {
@@ -150,11 +180,48 @@ impl Wrong {
             UnplugWithoutTheCheck => "unplug answers every state as one in order, also where the check fails",
             TwoVotersChange => "simple lets two voters change, and 18 comes at three",
             OldVotersNotKept => "entering does not keep the old voters as outgoing",
+            LastListWins => "the reader lets a later field replace the list",
+            CutVarintTaken => "the reader takes a cut varint for a number",
+            ThirtyBeforeTwentyNine => "the reader gives 30 before 29 within a field",
+            TwentyNineBeforeTwentyEight => "the reader gives 29 before 28 within a field",
+            UnpackedOnly => "the reader takes single numbers only, and refuses packed ones with 29",
+            FirstFlagDecides => "the reader lets the first flag decide",
+            TenthByteLetIn => "the reader lets in a tenth byte over 1",
+            UnknownFieldsRefused => "the reader refuses unknown fields with 29",
+            FieldZeroLetIn => "the reader skips field number 0 as an unknown field",
+            SixtyFiveLetIn => "the reader lets in a list of 65",
+            RefusedListsKept => "a refused reader keeps what it has read",
+            WritesEmptyLists => "the writer writes the field of an empty list",
+            WritesSingly => "the writer writes numbers singly",
+            RoomBeforeCounts => "the writer refuses with 31 before 2",
+            WritesWhatFits => "the writer touches the buffer though it refuses with 31",
         }
     }
 
+    /// Whether it is a rule of reading or writing messages.
+    pub fn of_messages(self) -> bool {
+        let rules = [
+            LastListWins,
+            CutVarintTaken,
+            ThirtyBeforeTwentyNine,
+            TwentyNineBeforeTwentyEight,
+            UnpackedOnly,
+            FirstFlagDecides,
+            TenthByteLetIn,
+            UnknownFieldsRefused,
+            FieldZeroLetIn,
+            SixtyFiveLetIn,
+            RefusedListsKept,
+            WritesEmptyLists,
+            WritesSingly,
+            RoomBeforeCounts,
+            WritesWhatFits,
+        ];
+        rules.contains(&self)
+    }
+
     /// Whether the Rust itself gives another answer. The others are about what the paper adds: an order, limits, unused places, the
-    /// script, in order.
+    /// script, in order, messages.
     pub fn seen_by_the_rust(self) -> bool {
         let added = [
             VotersSetBySet,
@@ -167,6 +234,6 @@ impl Wrong {
             LeastStagedAlone,
             StagedOutOfOrder,
         ];
-        !added.contains(&self)
+        !added.contains(&self) && !self.of_messages()
     }
 }

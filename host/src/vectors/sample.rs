@@ -113,6 +113,15 @@ impl Subject for Recorder {
         Model::PAPER.unplug(state, id, verdict)
     }
 
+    /// Not kept either, like what is written.
+    fn read_conf_state(&self, bytes: &[u8], conf_state: &mut [u64]) -> u64 {
+        Model::PAPER.read_conf_state(bytes, conf_state)
+    }
+
+    fn write_conf_state(&self, conf_state: &[u64], bytes: &mut [u8]) -> u64 {
+        Model::PAPER.write_conf_state(conf_state, bytes)
+    }
+
     fn replay(&self, script: &[u8], out: &mut [u8]) -> u64 {
         let Chosen { random, scripts, seen_scripts, seen_last, .. } = &mut *self.chosen.borrow_mut();
         if script.len() <= LONGEST_SCRIPT && (*seen_scripts == 0 || script != seen_last) {
