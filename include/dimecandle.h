@@ -1,4 +1,5 @@
-/* Raft membership by the proved libraries: libcalls.a (dimecandle_call, dimecandle_unplug) and liblisting.a (dimecandle_replay).
+/* Raft membership by the proved libraries: libcalls.a (dimecandle_call, dimecandle_unplug, dimecandle_read_conf_state,
+ * dimecandle_write_conf_state) and liblisting.a (dimecandle_replay).
  * Words, blocks and places are those of docs/EMBEDDING.md. For C11 and later on x86-64; usable from C++. */
 #ifndef DIMECANDLE_H
 #define DIMECANDLE_H
@@ -16,7 +17,9 @@ enum {
     DIMECANDLE_LIST_PLACES = 260, /* places of a change list; one over 256 is answered with 2 */
     DIMECANDLE_LOG_PLACES = 256,
     DIMECANDLE_STATE_WORDS = 967, /* of dimecandle_unplug */
-    DIMECANDLE_VERDICT_WORDS = 2
+    DIMECANDLE_VERDICT_WORDS = 2,
+    DIMECANDLE_CONF_STATE_WORDS = 261, /* of dimecandle_read_conf_state, dimecandle_write_conf_state */
+    DIMECANDLE_LONGEST_MESSAGE = 2574  /* bytes: 64 ids of ten bytes in each list, and the flag */
 };
 
 /* request.call */
@@ -124,6 +127,7 @@ typedef struct dimecandle_reply {
 } dimecandle_reply;
 
 static_assert(sizeof(dimecandle_state) == 8 * DIMECANDLE_STATE_WORDS, "a state is 967 words");
+static_assert(sizeof(dimecandle_conf_state) == 8 * DIMECANDLE_CONF_STATE_WORDS, "a ConfState is 261 words");
 static_assert(sizeof(dimecandle_request) == 20216, "a request is 2,527 words");
 static_assert(sizeof(dimecandle_reply) == 13960, "a reply is 1,745 words");
 static_assert(offsetof(dimecandle_request, conf_state) == 8 * 2266, "CONFSTATE is the request's last block");
@@ -139,6 +143,16 @@ uint64_t dimecandle_call(const uint8_t *request, size_t request_len, uint8_t *re
  * unplugged, verdict[1] the id, and the words after these two are kept. Else the verdict is as it was: 1 the state's length, 2 the verdict
  * too short, 4 a word that its field cannot hold. */
 uint64_t dimecandle_unplug(const uint64_t *state, size_t state_len, uint64_t id, uint64_t *verdict, size_t verdict_len);
+
+/* A ConfState read from its protobuf bytes. `conf_state` is a dimecandle_conf_state; its length is in words of 8 bytes. 0: it holds the four
+ * lists, ids in their order and zeros after them, and the flag; words after it are kept. 28 cut short, 29 no field of a ConfState, 30 a list
+ * over 64: it holds four empty lists and a false flag. 100: less than 261 words are lent, and they are as they were. */
+uint64_t dimecandle_read_conf_state(const uint8_t *bytes, size_t bytes_len, uint64_t *conf_state, size_t conf_state_len);
+
+/* A ConfState written as protobuf bytes: the length, with the message at the front of `bytes`, and the bytes after it kept. Else `bytes` is as
+ * it was: 2^32 + 1 where there are not 261 words or the flag is over 1, 2^32 + 2 for a list over 64, 2^32 + 31 for a message longer than
+ * `bytes`. DIMECANDLE_LONGEST_MESSAGE bytes are always enough. */
+uint64_t dimecandle_write_conf_state(const uint64_t *conf_state, size_t conf_state_len, uint8_t *bytes, size_t bytes_len);
 
 /* A script's listing: its length, with the listing at the front of `out`. Else `out` is as it was: 2^32 + 19 for a script over 65,536 bytes,
  * 2^32 + 20 for a listing longer than `out`. */

@@ -1,6 +1,6 @@
 /* Document 01's example 8 from C: a demoted voter is staged, and is a learner once the joint configuration is left. Its list has one
- * entry more, for a box that already stands as asked: that one counts as idle. On the way it is asked whether box 1 can be unplugged. Then
- * a damaged configuration is restored, whole and step by step.
+ * entry more, for a box that already stands as asked: that one counts as idle. On the way it is asked whether box 1 can be unplugged. What
+ * is left is written out as it travels, and read again. Then a damaged configuration is restored, whole and step by step.
  * Build and run it: scripts/embed */
 #include "dimecandle.h"
 
@@ -81,6 +81,33 @@ static void restored(const char *what) {
     printf("\n");
 }
 
+/* Writes the state's ConfState to bytes, shows them, and reads them again. */
+static void sent(void) {
+    uint8_t bytes[DIMECANDLE_LONGEST_MESSAGE];
+    dimecandle_conf_state read;
+    call(DIMECANDLE_TO_CONF_STATE);
+    const uint64_t *lists = (const uint64_t *)&reply.conf_state;
+    uint64_t length = dimecandle_write_conf_state(lists, DIMECANDLE_CONF_STATE_WORDS, bytes, sizeof bytes);
+    if (length > sizeof bytes) {
+        printf("dimecandle_write_conf_state: %llu\n", (unsigned long long)length);
+        exit(1);
+    }
+    printf("sent:");
+    for (uint64_t i = 0; i < length; i++) {
+        printf(" %02x", bytes[i]);
+    }
+    uint64_t number = dimecandle_read_conf_state(bytes, length, (uint64_t *)&read, DIMECANDLE_CONF_STATE_WORDS);
+    printf("\nread: number %llu,", (unsigned long long)number);
+    show_ids("voters", &read.voters);
+    show_ids("learners", &read.learners);
+    printf("\n");
+    /* without its last byte the last list is cut short */
+    number = dimecandle_read_conf_state(bytes, length - 1, (uint64_t *)&read, DIMECANDLE_CONF_STATE_WORDS);
+    printf("read a byte less: number %llu,", (unsigned long long)number);
+    show_ids("voters", &read.voters);
+    printf("\n");
+}
+
 static void change(uint64_t id, uint64_t kind) {
     request.list.ids[request.list.ids_count++] = id;
     request.list.kinds[request.list.kinds_count++] = kind;
@@ -112,6 +139,7 @@ int main(void) {
     call(DIMECANDLE_LEAVE_JOINT);
     answered("leave_joint");
     unplug(1);
+    sent();
 
     /* voters (5), learners (1 2 4 5): every voter is to be a learner, and the last step is refused with 17 */
     append(&request.conf_state.voters, 5);
