@@ -30,4 +30,5 @@ pub mod Packed
 pub mod Lists64
 pub mod MessageFirst
 pub mod MessageBack
+pub mod Lowest
 pub mod Theorems

@@ -26,9 +26,22 @@ at-29 = (omega arith, omega arith)
 at-30 : Named 30
 at-30 = (omega arith, omega arith)
 
+-- what the wire alone refuses
+abbrev pub Early : ℕ → Type 0
+Early e = (28 ≤ e) × (e ≤ 29)
+
+early-28 : Early 28
+early-28 = (omega arith, omega arith)
+
+early-29 : Early 29
+early-29 = (omega arith, omega arith)
+
+named : {e : ℕ} → Early e → Named e
+named h = (h .0, omega (arith, h .1))
+
 -- a refusal, if it is one, is named
 abbrev InFound : {A : Type 0} → Found A → Type 0
-InFound (bad e) = Named e
+InFound (bad e) = Early e
 InFound (found x n) = Unit {0}
 
 abbrev InNumbers : Numbers → Type 0
@@ -47,19 +60,19 @@ InRead (taken m) = Unit {0}
 -- ** A varint, a field, a row
 
 in-judged : (f : Front) → InFound (judged f)
-in-judged cut = at-28
+in-judged cut = early-28
 in-judged (num v n) = by (fits v n)
   where
     by : (t : Bool) → InFound (cond t (found v n) (bad 29))
     by true = tt
-    by false = at-29
+    by false = early-29
 
 in-varint : (l : List ℕ) → InFound (varintIn l)
 unfolding varintIn
 in-varint l = in-judged (front l)
 
 pub varint-named : (l : List ℕ) {e : ℕ} → varintIn l ≡ bad e → Named e
-varint-named l h = subst InFound h (in-varint l)
+varint-named l h = named (subst InFound h (in-varint l))
 
 in-single : (x : Found ℕ) → InFound x → InFound (single x)
 in-single (bad e) h = h
@@ -70,7 +83,7 @@ in-fixed n l = by (leb n (length l))
   where
     by : (t : Bool) → InFound (cond t (found fixed n) (bad 28))
     by true = tt
-    by false = at-28
+    by false = early-28
 
 in-length : (l : List ℕ) (x : Found ℕ) → InFound x → InFound (lengthIn l x)
 in-length l (bad e) h = h
@@ -78,7 +91,7 @@ in-length l (found v n) h = by (leb v (length l - n))
   where
     by : (t : Bool) → InFound (cond t (found (bytes (take v (drop n l))) (n + v)) (bad 28))
     by true = tt
-    by false = at-28
+    by false = early-28
 
 in-payload : (w : ℕ) (l : List ℕ) → InFound (payloadIn w l)
 unfolding payloadIn
@@ -90,7 +103,10 @@ in-payload w l = by (eqb w 0) (eqb w 1) (eqb w 2) (eqb w 5)
     by false true c d = in-fixed 8 l
     by false false true d = in-length l (varintIn l) (in-varint l)
     by false false false true = in-fixed 4 l
-    by false false false false = at-29
+    by false false false false = early-29
+
+pub payload-named : (w : ℕ) (l : List ℕ) {e : ℕ} → payloadIn w l ≡ bad e → Early e
+payload-named w l h = subst InFound h (in-payload w l)
 
 in-held : (f n : ℕ) (x : Found Payload) → InFound x → InFound (held f n x)
 in-held f n (bad e) h = h
@@ -98,7 +114,7 @@ in-held f n (found p k) h = by (numbered f)
   where
     by : (t : Bool) → InFound {A = Field} (cond t (found (record { number = f; payload = p }) (n + k)) (bad 29))
     by true = tt
-    by false = at-29
+    by false = early-29
 
 in-tagged : (l : List ℕ) (x : Found ℕ) → InFound x → InFound (tagged l x)
 in-tagged l (bad e) h = h
@@ -109,7 +125,7 @@ unfolding fieldIn
 in-field l = in-tagged l (varintIn l) (in-varint l)
 
 pub field-named : (l : List ℕ) {e : ℕ} → fieldIn l ≡ bad e → Named e
-field-named l h = subst InFound h (in-field l)
+field-named l h = named (subst InFound h (in-field l))
 
 in-row : (k : ℕ) (l : List ℕ) → InRow (rowOf k l)
 unfolding rowOf
@@ -119,7 +135,7 @@ in-row (suc k) [] = tt
 in-row (suc k) (b ∷ bs) = by (in-row k) (fieldIn (b ∷ bs)) (in-field (b ∷ bs))
   where
     by : ((l : List ℕ) → InRow (rowOf k l)) → (x : Found Field) → InFound x → InRow (onward x (λ n. rowOf k (drop n (b ∷ bs))))
-    by r (bad e) h = h
+    by r (bad e) h = named h
     by r (found f n) h = r (drop n (b ∷ bs))
 
 -- ** The numbers of a list, a field taken in
@@ -133,7 +149,7 @@ in-lower {e} h (faulty d) k = by (ltb e d)
 in-lower h (all xs) k = h
 
 in-before : (x : Found ℕ) (r : Numbers) → InFound x → InNumbers r → InNumbers (before x r)
-in-before (bad e) r h k = in-lower h r k
+in-before (bad e) r h k = in-lower (named h) r k
 in-before (found v n) (faulty d) h k = k
 in-before (found v n) (all xs) h k = tt
 

@@ -24,6 +24,7 @@ use Rattle.rules.specs.Quorum.{CallsShare, Group, SequenceShares, quorum
 use Rattle.rules.specs.Rust.{byKind}
 use Rattle.rules.specs.Wire.{Field, found, fieldIn, row}
 use Rattle.rules.specs.Message.{Few64, Below64, Answered, refused, taken, entered, readRow, read, numberRead, encoded}
+use Rattle.rules.specs.MessageFaults.{LowestTold}
 use Rattle.rules.specs.Demands.{AltersItsOwn, AsTheRust, ComesBack, EmptyComesBack, Kept, Whole}
 use Rattle.rules.proofs.Changes.{Fine}
 use Rattle.rules.proofs.Steps.{Ordered}
@@ -40,6 +41,7 @@ use Rattle.rules.proofs.Thirteen.{check-never-13, call-never-13}
 use Rattle.rules.proofs.Unplug.{unplug-quick, unplug-straight}
 use Rattle.rules.proofs.Refusals.{accepted-or-named}
 use Rattle.rules.proofs.Lists64.{read-few}
+use Rattle.rules.proofs.Lowest.{lowest}
 use Rattle.rules.proofs.MessageFirst.{fault-stays, read-append, whole-fault-stays}
 use Rattle.rules.proofs.MessageBack.{encoded-length, encoded-one, read-encoded, travels}
 use Rattle.rules.proofs.Empty.{empty-back}
@@ -203,6 +205,10 @@ fault-is-told = fault-stays
 
 pub whole-fault-is-told : (a c b : List ℕ) {m : ConfState} {f : Field} {n e : ℕ} → read a ≡ taken m → fieldIn c ≡ found f n → entered f m ≡ refused e → read (a ++ (c ++ b)) ≡ refused e
 whole-fault-is-told = whole-fault-stays
+
+-- "and within it the lower number": of a field the least of all its faults is told, and a field that is taken has none
+pub lowest-is-told : (l : List ℕ) (m : ConfState) → LowestTold l m
+lowest-is-told = lowest
 
 -- a message is its parts one after the other
 pub parts-in-turn : (a b : List ℕ) {m : ConfState} → read a ≡ taken m → read (a ++ b) ≡ readRow (row b) m

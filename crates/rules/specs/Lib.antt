@@ -24,4 +24,5 @@ pub mod UnplugExamples
 pub mod QuorumExamples
 pub mod Wire
 pub mod Message
+pub mod MessageFaults
 pub mod MessageExamples

@@ -7,6 +7,7 @@ use lib.ListN.{replicate}
 use Rattle.rules.specs.State.{ConfState}
 use Rattle.rules.specs.Apply.{noConfState}
 use Rattle.rules.specs.Wire.{bad, found, front, fits, varintIn, payloadIn, fieldIn, rowOf, row, groups, varintOf}
+use Rattle.rules.specs.MessageFaults.{packedFaults, meaningFaults, faults}
 use Rattle.rules.specs.Message.{fronts, gathered, packed, entered, readRow, read, refused, taken, packedOf, listField, flagField, encoded, overlong, numberWritten, bufferWritten}
 
 -- ** Varints
@@ -95,3 +96,11 @@ module _ where
   pub first-wins : read (11 ∷ 10 ∷ 9 ∷ []) ≡ refused 29
   unfolding read readRow row rowOf fieldIn payloadIn varintIn front fits entered packed fronts gathered
   first-wins = refl
+
+-- ** Several faults in one field
+
+-- over ten bytes, and then cut; a 65th id, and one over 64 bits; cut, and of number 0
+pub several-faults : (faults (10 ∷ 12 ∷ (replicate 10 128 ++ (0 ∷ 128 ∷ []))) noConfState ≡ 29 ∷ 28 ∷ [])
+    × (faults (10 ∷ 74 ∷ (replicate 64 1 ++ (replicate 9 255 ++ (2 ∷ [])))) noConfState ≡ 29 ∷ 30 ∷ []) × (faults (0 ∷ []) noConfState ≡ 28 ∷ 29 ∷ [])
+unfolding faults packedFaults meaningFaults payloadIn varintIn front fits fronts
+several-faults = (refl, refl, refl)
