@@ -13,6 +13,7 @@ use crate::oracle::{self, Replaying};
 use crate::run::CANNOT_RUN;
 use crate::script::{listing, ENTER, LEAVE, LONGEST_SCRIPT, RECORD, SIMPLE as RUN};
 use crate::subject::{linked_code, say_missing, Linked, Subject, LINKED_IS_EMULATED};
+use crate::timing::{processor, time, Time};
 use crate::words::{
     Block, Change, ConfState, Ids, List, Record, Request, ADD_LEARNER_NODE, ADD_NODE, REMOVE_NODE, REPLY_BYTES, VERDICT_WORDS,
 };
@@ -20,7 +21,6 @@ use raft::eraftpb::ConfChangeSingle;
 use raft::{Changer, ProgressTracker};
 use std::hint::black_box;
 use std::process::ExitCode;
-use std::time::Duration;
 
 pub fn run() -> ExitCode {
     if LINKED_IS_EMULATED {
@@ -54,56 +54,7 @@ pub fn run() -> ExitCode {
     ExitCode::SUCCESS
 }
 
-/// What Linux says of the processor: its name, or the numbers that it has in the place of one.
-fn processor() -> String {
-    let known = std::fs::read_to_string("/proc/cpuinfo").unwrap_or_default();
-    let said =
-        |key: &str| known.lines().find_map(|line| line.strip_prefix(key)?.trim_start().strip_prefix(": ").map(str::to_string));
-    let numbers = || Some(format!("CPU implementer {}, part {}", said("CPU implementer")?, said("CPU part")?));
-    let name: Option<String> = said("model name").or_else(numbers);
-    format!("{} ({})", std::env::consts::ARCH, name.unwrap_or_else(|| "no name known".to_string()))
-}
-
 const SIZES: [usize; 4] = [3, 5, 16, 64];
-
-/// In nanoseconds, and parts of them.
-type Time = f64;
-
-/// The shortest time of one of so many things done by `work`, over many batches of some two milliseconds.
-fn time(things: usize, mut work: impl FnMut()) -> Time {
-    let mut batch = 1;
-    let mut best = Time::MAX;
-    let begin = processor_time();
-    while processor_time() - begin < Duration::from_millis(400) {
-        let start = processor_time();
-        for _ in 0..batch {
-            work();
-        }
-        let took = processor_time() - start;
-        best = best.min(took.as_nanos() as Time / f64::from(batch) / things as Time);
-        if took < Duration::from_millis(2) {
-            batch *= 2;
-        }
-    }
-    best
-}
-
-/// What this thread has had of the processor.
-fn processor_time() -> Duration {
-    #[repr(C)]
-    struct Timespec {
-        seconds: i64,
-        nanoseconds: i64,
-    }
-    const CLOCK_THREAD_CPUTIME_ID: i32 = 3;
-    extern "C" {
-        fn clock_gettime(clock: i32, time: *mut Timespec) -> i32;
-    }
-    let mut time = Timespec { seconds: 0, nanoseconds: 0 };
-    let status = unsafe { clock_gettime(CLOCK_THREAD_CPUTIME_ID, &mut time) };
-    assert_eq!(status, 0, "Linux has this clock");
-    Duration::new(time.seconds as u64, time.nanoseconds as u32)
-}
 
 fn header(one: &str, other: &str) {
     println!("{:52}{one:>12}{other:>12}{:>9}", "", "ratio");

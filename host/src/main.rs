@@ -21,6 +21,8 @@ mod show;
 mod shrink;
 mod stack;
 mod subject;
+#[cfg(rust_text)]
+mod timing;
 mod vectors;
 mod whole;
 mod words;

@@ -4,11 +4,11 @@
 //! shown.
 
 use crate::message::{singly, Message};
+use crate::timing::{processor, time, Time};
 use crate::{ours, rust_protobuf};
 use protobuf::Message as _;
 use rust_protobuf::ConfState;
 use std::hint::black_box;
-use std::time::Duration;
 
 pub fn run() -> Result<(), String> {
     println!("{} beside rust-protobuf {}, on {}", ours::CODE, rust_protobuf::VERSION, processor());
@@ -32,11 +32,11 @@ fn reads(name: &str, form: &str, message: &Message, bytes: &[u8]) -> Result<(), 
         return Err(format!("{name}, {form}: it is not read as it was written"));
     }
     let mut words = [0; ours::CONF_STATE];
-    let ours = time(|| {
+    let ours = time(1, || {
         black_box(ours::read_entry(black_box(bytes), &mut words));
         black_box(&words);
     });
-    let rust = time(|| {
+    let rust = time(1, || {
         let _ = black_box(ConfState::parse_from_bytes(black_box(bytes)));
     });
     report(&format!("read {form}, {name}"), rust, ours);
@@ -46,15 +46,15 @@ fn reads(name: &str, form: &str, message: &Message, bytes: &[u8]) -> Result<(), 
 fn writes(name: &str, message: &Message) -> Result<(), String> {
     let (words, value) = (ours::words(message), rust_protobuf::value(message));
     let mut bytes = [0; ours::LONGEST];
-    let ours = time(|| {
+    let ours = time(1, || {
         black_box(ours::write_entry(black_box(&words), &mut bytes));
         black_box(&bytes);
     });
-    let to_new = time(|| {
+    let to_new = time(1, || {
         let _ = black_box(black_box(&value).write_to_bytes());
     });
     let mut kept = vec![];
-    let to_kept = time(|| {
+    let to_kept = time(1, || {
         kept.clear();
         let _ = black_box(black_box(&value).write_to_vec(&mut kept));
         black_box(&kept);
@@ -67,52 +67,6 @@ fn writes(name: &str, message: &Message) -> Result<(), String> {
     Ok(())
 }
 
-fn report(name: &str, rust: f64, ours: f64) {
+fn report(name: &str, rust: Time, ours: Time) {
     println!("{name:66}{rust:>13.1} ns{ours:>9.1} ns{:>8.2}", ours / rust);
-}
-
-/// The shortest time of `work`, in nanoseconds, over many batches of some two milliseconds.
-fn time(mut work: impl FnMut()) -> f64 {
-    let mut batch = 1_u32;
-    let mut best = f64::MAX;
-    let begin = processor_time();
-    while processor_time() - begin < Duration::from_millis(400) {
-        let start = processor_time();
-        for _ in 0..batch {
-            work();
-        }
-        let took = processor_time() - start;
-        best = best.min(took.as_secs_f64() * 1e9 / f64::from(batch));
-        if took < Duration::from_millis(2) {
-            batch *= 2;
-        }
-    }
-    best
-}
-
-/// What this thread has had of the processor.
-fn processor_time() -> Duration {
-    #[repr(C)]
-    struct Timespec {
-        seconds: i64,
-        nanoseconds: i64,
-    }
-    const CLOCK_THREAD_CPUTIME_ID: i32 = 3;
-    extern "C" {
-        fn clock_gettime(clock: i32, time: *mut Timespec) -> i32;
-    }
-    let mut time = Timespec { seconds: 0, nanoseconds: 0 };
-    let status = unsafe { clock_gettime(CLOCK_THREAD_CPUTIME_ID, &mut time) };
-    assert_eq!(status, 0, "Linux has this clock");
-    Duration::new(time.seconds as u64, time.nanoseconds as u32)
-}
-
-/// What Linux says of the processor: its name, or the numbers that it has in the place of one.
-fn processor() -> String {
-    let known = std::fs::read_to_string("/proc/cpuinfo").unwrap_or_default();
-    let said =
-        |key: &str| known.lines().find_map(|line| line.strip_prefix(key)?.trim_start().strip_prefix(": ").map(str::to_string));
-    let numbers = || Some(format!("CPU implementer {}, part {}", said("CPU implementer")?, said("CPU part")?));
-    let name: Option<String> = said("model name").or_else(numbers);
-    format!("{} ({})", std::env::consts::ARCH, name.unwrap_or_else(|| "no name known".to_string()))
 }

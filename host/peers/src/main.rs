@@ -9,6 +9,8 @@ mod random;
 mod rust_protobuf;
 mod sample;
 mod table;
+#[path = "../../src/timing.rs"]
+mod timing;
 
 use std::process::ExitCode;
 
