@@ -315,7 +315,7 @@ unsafe extern "C" {
 const TOO_FEW_WORDS: u64 = 100;
 const MESSAGE_REFUSED: u64 = 1 << 32;
 
-/// The other entries return 0, unless it was handed lengths, a call or words that its layout has not.
+/// The other entries return 0, unless they were handed lengths, a call or words that its layout has not.
 fn same_layout(returned: u64) -> Result<(), Refused> {
     match returned {
         0 => Ok(()),

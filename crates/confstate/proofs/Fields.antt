@@ -1,21 +1,21 @@
 -- Laws of one field: its number, and what it comes to. Assumes nothing.
-use Prim.Native.Nat.{ℕ, zero, suc, _+_, _-_, _*_, _/_, _%_, _^_, _≤_, _<_}
+use Prim.Native.Nat.{ℕ, zero, suc, _+_, _-_, _*_, _^_, _≤_, _<_}
 use mathlib.Core.Path.{_≡_, refl, ap, sym, subst, _∙_}
-use mathlib.Core.Bool.{Bool, true, false, _&&_, not, cond}
+use mathlib.Core.Bool.{Bool, true, false, not, cond}
 use mathlib.Core.List.{List, [], _∷_, _++_}
 use native.Mathlib.Omega.{arith}
-use borrow.Author.Tests.{lt-ltb, le-ltb, le-leb, lt-leb, ltb-true, ltb-false, eq-eqb, ne-eqb, not-true, not-false}
-use lib.Dec.{eqb, leb, ltb}
+use borrow.Author.Tests.{lt-ltb, le-ltb, le-leb, lt-leb, ltb-true, ltb-false, ne-eqb, not-true, not-false}
+use lib.Dec.{eqb, ltb}
 use lib.ListN.{length, take, drop, getD, set, length-append, length-drop}
 use lib.Seq.{drop-drop}
 use Rattle.rules.specs.State.{ConfState}
-use Rattle.rules.specs.Wire.{Found, bad, found, Payload, varint, fixed, bytes, single, fixedIn, lengthIn, payloadIn, Field, numbered, varintIn}
-use Rattle.rules.specs.Message.{Numbers, faulty, all, numbers, grown, packed, Read, refused, taken, withFlag, listed, flagged, entered}
+use Rattle.rules.specs.Wire.{Found, bad, found, Payload, varint, bytes, single, lengthIn, numbered, varintIn}
+use Rattle.rules.specs.Message.{Numbers, faulty, all, numbers, grown, packed, Read, taken, withFlag, listed, flagged, entered}
 use Rattle.wire.specs.Varints.{varintAt}
 use Rattle.wire.specs.declared.Varint.{Varint}
 use Rattle.wire.proofs.Found.{read-bad, read-found, found-within}
 use Rattle.confstate.specs.Words.{flagWord, listWords, confStateWords, listIn, messageIn}
-use Rattle.confstate.specs.Steps.{Holding, Listing, Grows, Step, stop, go, Takes, closed, heldAt, taggedAt, fieldAt, fixedAt}
+use Rattle.confstate.specs.Steps.{Holding, Listing, Grows, stop, Takes, closed, heldAt, fixedAt}
 use Rattle.confstate.specs.declared.read.Taken.{Taken}
 use Rattle.confstate.proofs.Words.{counted, count-set, id-set, told, listed-count, list-back, listing, listOf, withList, replaced, block-in, block-out, list-few, flag-set}
 

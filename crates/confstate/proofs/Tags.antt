@@ -1,16 +1,16 @@
 -- Laws of a field by its tag, and of the loop over fields. Assumes nothing.
 use Prim.Native.Nat.{ℕ, zero, suc, _+_, _-_, _/_, _%_, _≤_, _<_}
 use mathlib.Core.Path.{_≡_, refl, ap, sym, subst, _∙_}
-use mathlib.Core.Bool.{Bool, true, false, _&&_, not, cond}
-use mathlib.Core.List.{List, [], _∷_}
+use mathlib.Core.Bool.{Bool, true, false, _&&_, cond}
+use mathlib.Core.List.{List}
 use native.Mathlib.Omega.{arith}
-use borrow.Author.Tests.{leb-true, leb-false, ltb-true, ltb-false, eq-eqb, ne-eqb}
-use lib.Dec.{eqb, leb, ltb}
+use borrow.Author.Tests.{ltb-true, ltb-false, eq-eqb, ne-eqb}
+use lib.Dec.{leb, ltb}
 use lib.ListN.{length, drop, length-drop, drop-of-length-le}
 use lib.Seq.{drop-drop}
 use Rattle.rules.specs.State.{ConfState}
 use Rattle.rules.specs.Apply.{noConfState}
-use Rattle.rules.specs.Wire.{Found, bad, found, Payload, varint, fixed, bytes, single, fixedIn, lengthIn, payloadIn, Field, numbered, held, tagged, varintIn, fieldIn, row}
+use Rattle.rules.specs.Wire.{Found, bad, found, Payload, fixed, bytes, single, fixedIn, lengthIn, payloadIn, Field, numbered, held, tagged, varintIn, fieldIn, row}
 use Rattle.rules.specs.Message.{Few64, Read, refused, taken, entered, goOn, readRow, read}
 use Rattle.rules.proofs.Refusals.{field-named, entered-named}
 use Rattle.rules.proofs.Lists64.{entered-few, few-none}

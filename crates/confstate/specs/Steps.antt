@@ -7,7 +7,7 @@ use mathlib.Core.List.{List}
 use lib.Dec.{leb, ltb}
 use lib.ListN.{length, drop}
 use Rattle.rules.specs.State.{ConfState}
-use Rattle.rules.specs.Wire.{Found, bad, found, Payload, Field, numbered, payloadIn, varintIn}
+use Rattle.rules.specs.Wire.{Found, bad, found, Payload, numbered, payloadIn, varintIn}
 use Rattle.rules.specs.Message.{Few64, Numbers, faulty, all, Read, refused, taken, entered}
 use Rattle.confstate.specs.Words.{listWords, confStateWords, listIn, messageIn}
 use Rattle.confstate.specs.declared.read.Taken.{Taken}

@@ -1,10 +1,10 @@
 -- ConfState as it travels, on what reader and writer answer and leave. Assumes nothing.
-use Prim.Native.Nat.{ℕ, _+_, _-_, _*_, _^_, _<_, _≤_}
+use Prim.Native.Nat.{ℕ, _+_, _-_, _*_, _<_, _≤_}
 use mathlib.Core.Path.{_≡_, refl, ap, sym, subst, _∙_}
 use mathlib.Core.Bool.{Bool, true, false, cond}
 use mathlib.Core.List.{List, _++_}
 use native.Mathlib.Omega.{arith}
-use borrow.Author.Tests.{le-ltb, ltb-false}
+use borrow.Author.Tests.{ltb-false}
 use lib.Dec.{eqb, ltb}
 use lib.ListN.{length, take, drop, getD, replicate}
 use lib.Seq.{drop-at, take-at, take-take}
@@ -19,7 +19,7 @@ use Rattle.tracker.specs.Bridge.{confStateOf}
 use Rattle.unplug.specs.Words.{flag, wordsBy}
 use Rattle.unplug.proofs.WordBlocks.{part-words}
 use Rattle.confstate.specs.Words.{at, confStateWords, flagWord, isConfState, listWords, messageIn}
-use Rattle.confstate.specs.Entries.{readAnswer, readLeaves, writeAnswer, writeLeaves, writeNumber}
+use Rattle.confstate.specs.Entries.{readAnswer, writeAnswer, writeLeaves, writeNumber}
 use Rattle.confstate.specs.Sizes.{refusalOf}
 use Rattle.confstate.proofs.Words.{block-in, count-at, list-places, listOf, words-back, words-flag, words-length}
 use Rattle.confstate.proofs.Clearing.{cleared}

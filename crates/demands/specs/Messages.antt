@@ -1,8 +1,8 @@
 -- ConfState as it travels: document 02, k), of what reader and writer answer and leave. These are the definitions that the contracts of `read`, `write` and
 -- the two C entries are equal to (crates/confstate/specs/Entries.antt). Assumes nothing.
-use Prim.Native.Nat.{ℕ, _+_, _^_, _<_, _≤_}
+use Prim.Native.Nat.{ℕ, _+_, _^_, _<_}
 use mathlib.Core.Path.{_≡_}
-use mathlib.Core.Bool.{true, false}
+use mathlib.Core.Bool.{false}
 use mathlib.Core.List.{List}
 use lib.Dec.{eqb}
 use lib.ListN.{length, take, drop, replicate}
@@ -11,7 +11,7 @@ use Rattle.tracker.specs.Bridge.{confStateOf}
 use Rattle.tracker.specs.declared.IdList.{IdList}
 use Rattle.tracker.specs.declared.ConfState.{ConfState}
 use Rattle.unplug.specs.Words.{flag, wordsBy}
-use Rattle.confstate.specs.Words.{at, isConfState, messageIn}
+use Rattle.confstate.specs.Words.{at, messageIn}
 use Rattle.confstate.specs.Entries.{readAnswer, readLeaves, writeAnswer, writeLeaves, writeNumber}
 
 -- ** Reading

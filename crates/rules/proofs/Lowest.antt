@@ -8,9 +8,9 @@ use borrow.Author.Tests.{ltb-true, ltb-false, ne-eqb}
 use lib.Dec.{eqb, leb, ltb}
 use lib.ListN.{length, drop, length-append}
 use Rattle.rules.specs.State.{ConfState}
-use Rattle.rules.specs.Wire.{Front, cut, num, fits, Found, bad, found, Payload, varint, fixed, bytes, payloadIn, Field, numbered, held, tagged, judged, varintIn, fieldIn}
-use Rattle.rules.specs.Message.{Numbers, faulty, all, fronts, lower, before, gathered, packed, numbers, grown, Read, refused, taken, withVoters, withLearners, withOutgoing, withNext, listed, flagged, entered}
-use Rattle.rules.specs.MessageFaults.{varintFaults, packedFaults, numberFaults, lengthFaults, listFaults, flagFaults, meaningFaults, fieldFaults, tagFaults, faults, leastOf, step, Least, LowestTold}
+use Rattle.rules.specs.Wire.{Front, cut, num, fits, Found, bad, found, Payload, varint, fixed, bytes, payloadIn, numbered, held, tagged, judged, varintIn, fieldIn}
+use Rattle.rules.specs.Message.{Numbers, faulty, all, fronts, lower, before, gathered, packed, numbers, grown, refused, taken, withVoters, withLearners, withOutgoing, withNext, listed, flagged, entered}
+use Rattle.rules.specs.MessageFaults.{varintFaults, packedFaults, lengthFaults, listFaults, flagFaults, meaningFaults, fieldFaults, tagFaults, faults, leastOf, step, Least, LowestTold}
 use Rattle.rules.proofs.Refusals.{payload-named}
 
 -- ** Packed numbers

@@ -1,14 +1,14 @@
 -- Laws of the wire: what is found lies within the bytes, and a varint that was written is found again. Assumes nothing.
 use Prim.Native.Nat.{ℕ, zero, suc, _+_, _-_, _*_, _/_, _%_, _^_, _≤_, _<_}
-use mathlib.Core.Path.{_≡_, refl, ap, sym, subst, _∙_}
-use mathlib.Core.Bool.{Bool, true, false, _&&_, not, cond}
+use mathlib.Core.Path.{_≡_, refl, subst, _∙_}
+use mathlib.Core.Bool.{Bool, true, false, cond}
 use mathlib.Core.List.{List, [], _∷_, _++_}
 use native.Mathlib.Nat.{pow-suc, div-lt-iff-lt-mul, mod-add-div}
 use native.Mathlib.Omega.{arith}
 use borrow.Author.Tests.{lt-ltb, le-ltb, le-leb, ltb-true, ltb-false, leb-true}
 use lib.Dec.{eqb, leb, ltb}
-use lib.ListN.{length, take, drop, length-drop, length-append}
-use Rattle.rules.specs.Wire.{Front, cut, num, more, front, Found, bad, found, fits, judged, varintIn, Payload, varint, fixed, bytes, single, fixedIn, lengthIn, payloadIn, Field, numbered, held, tagged, fieldIn, Row, end, fault, next, onward, rowOf, row, groups, varintOf}
+use lib.ListN.{length, take, drop, length-drop}
+use Rattle.rules.specs.Wire.{Front, cut, num, more, front, Found, bad, found, fits, judged, varintIn, Payload, varint, fixed, bytes, single, fixedIn, lengthIn, payloadIn, Field, numbered, held, tagged, fieldIn, end, fault, next, rowOf, row, groups, varintOf}
 
 -- ** The front of bytes, by the first of them
 

@@ -1,18 +1,15 @@
 -- Laws of the bytes of a number: how many they are, and the loop that puts them into a slice. Assumes nothing.
 use Prim.Native.Nat.{ℕ, zero, suc, _+_, _*_, _/_, _%_, _^_, _≤_, _<_}
 use mathlib.Core.Path.{_≡_, refl, ap, sym, _∙_}
-use mathlib.Core.Bool.{Bool, true, false, cond}
 use mathlib.Core.List.{List, [], _∷_}
 use native.Mathlib.Nat.{one-le-pow, pow-suc}
 use native.Mathlib.Numerals.{add-one}
 use native.Mathlib.Omega.{arith}
-use borrow.Author.Tests.{lt-ltb, le-ltb}
-use lib.Dec.{ltb}
 use lib.ListN.{length, set}
 use lib.Seq.{sets, length-sets}
 use Rattle.text.specs.Put.{Put, last}
 use Rattle.rules.specs.Wire.{groups, varintOf}
-use Rattle.rules.proofs.Wire.{groups-one, groups-more, groups-less, groups-some, varint-length}
+use Rattle.rules.proofs.Wire.{groups-one, groups-more, groups-less, groups-some}
 
 -- the bytes that a loop has still to come to, of a number m that is left
 pub record Left (m : ℕ) (bytes : List ℕ) : Type 0 where

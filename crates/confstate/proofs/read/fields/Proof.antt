@@ -1,14 +1,11 @@
+-- `confstate::read::fields` meets its contract. Assumes nothing.
 use mathlib.Core.Path.{sym, _∙_}
 use Rattle.confstate.proofs.Tags.{Going, start-length, going-start, going-end, going-stop, going-next}
 use lib.ListN.{length}
 use Prim.Native.Nat.{_-_}
-use borrow.Author.Needs.{needs}
 use native.Mathlib.Omega.{arith}
 use Rattle.confstate.proofs.read.fields.Statement.{statement}
 use Rattle.confstate.proofs.read.fields.Tie as tie
-use Rattle.confstate.proofs.read.fields.Reads as reads
-use Rattle.confstate.proofs.read.fields.Lts as lts
-use Rattle.confstate.proofs.read.field.Reads as field-reads
 
 abbrev Inv-loop : tie.InvT-loop
 Inv-loop bytes words₀ at₀ words at = Going bytes words at
@@ -16,35 +13,27 @@ Inv-loop bytes words₀ at₀ words at = Going bytes words at
 abbrev μ-loop : tie.MeasureT-loop
 μ-loop bytes words₀ at₀ words at = length bytes - at
 
--- src/read.rt:55:5
 loop-holds : tie.Need-loop-holds Inv-loop μ-loop
 loop-holds c = going-start _ (c .before .before .pre)
 
--- src/read.rt:56:13
 field-requires : tie.Need-field-requires Inv-loop μ-loop
 field-requires c κs = c .before .before .loop .inv .holds
 
--- src/read.rt:58:13
 same-length : tie.Need-same-length Inv-loop μ-loop
 same-length c = c .before .before .before .before .field .kept .1 .1 .0 ∙ (c .before .before .before .before .before .before .before .loop .inv .long ∙ sym (start-length (c .before .before .before .before .before .before .before .before .before .before .pre)))
 
--- src/read.rt:58:13
 returns : tie.Need-returns Inv-loop μ-loop
 returns c = going-stop (c .before .before .before .before .before .before .before .loop .inv) (c .before .before .before .before .before .before .loop-test .taken) _ _ (c .before .before .before .before .field .ensures) (c .if1 .taken)
 
--- src/read.rt:55:5
 loop-less : tie.Need-loop-less Inv-loop μ-loop
 loop-less c = omega (arith, going-next (c .before .before .before .before .before .before .before .loop .inv) (c .before .before .before .before .before .before .loop-test .taken) _ _ (c .before .before .before .before .field .ensures) (c .if1 .left) .0 .spot, going-next (c .before .before .before .before .before .before .before .loop .inv) (c .before .before .before .before .before .before .loop-test .taken) _ _ (c .before .before .before .before .field .ensures) (c .if1 .left) .1)
 
--- src/read.rt:55:5
 loop-again : tie.Need-loop-again Inv-loop μ-loop
 loop-again c = going-next (c .before .before .before .before .before .before .before .loop .inv) (c .before .before .before .before .before .before .loop-test .taken) _ _ (c .before .before .before .before .field .ensures) (c .if1 .left) .0
 
--- src/read.rt:50:1
 same-length-2 : tie.Need-same-length-2 Inv-loop μ-loop
 same-length-2 c = c .before .loop .inv .long ∙ sym (start-length (c .before .before .before .before .pre))
 
--- src/read.rt:50:1
 returns-2 : tie.Need-returns-2 Inv-loop μ-loop
 returns-2 c = going-end (c .before .loop .inv) (c .loop-test .left)
 

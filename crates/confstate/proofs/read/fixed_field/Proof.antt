@@ -1,49 +1,36 @@
+-- `confstate::read::fixed_field` meets its contract. Assumes nothing.
 use Rattle.confstate.proofs.Fields.{fixed-28, fixed-29, fixed-known, fixed-go}
 use borrow.Author.Needs.{needs}
 use Rattle.confstate.proofs.read.fixed_field.Statement.{statement}
 use Rattle.confstate.proofs.read.fixed_field.Tie as tie
-use Rattle.confstate.proofs.read.fixed_field.Reads as reads
-use Rattle.confstate.proofs.read.fixed_field.Lts as lts
-use Rattle.confstate.proofs.read.misnumbered.Reads as misnumbered-reads
-use Rattle.confstate.proofs.read.refused.Reads as refused-reads
 
--- src/read.rt:187:8
 sub-if1 : tie.Need-sub-if1
 sub-if1 c = search needs
 
--- src/read.rt:188:9
 refused-requires : tie.Need-refused-requires
 refused-requires c κs = search needs
 
--- src/read.rt:188:9
 returns : tie.Need-returns
 returns c = fixed-28 _ _ _ _ (c .before .if1 .taken) (c .refused .ensures)
 
--- src/read.rt:190:8
 misnumbered-requires : tie.Need-misnumbered-requires
 misnumbered-requires c κs = search needs
 
--- src/read.rt:191:9
 refused-requires-2 : tie.Need-refused-requires-2
 refused-requires-2 c κs = search needs
 
--- src/read.rt:191:9
 returns-2 : tie.Need-returns-2
 returns-2 c = fixed-29 _ _ _ _ (c .before .before .before .if1 .left) (c .before .before .misnumbered .ensures) (c .before .if2 .taken) (c .refused2 .ensures)
 
--- src/read.rt:194:9
 refused-requires-3 : tie.Need-refused-requires-3
 refused-requires-3 c κs = search needs
 
--- src/read.rt:194:9
 returns-3 : tie.Need-returns-3
 returns-3 c = fixed-known _ _ _ _ (c .before .before .before .before .if1 .left) (c .before .before .before .misnumbered .ensures) (c .before .before .if2 .left) (c .before .if3 .taken) (c .refused3 .ensures)
 
--- src/read.rt:198:15
 add-t5 : tie.Need-add-t5
 add-t5 c = search needs
 
--- src/read.rt:183:1
 returns-4 : tie.Need-returns-4
 returns-4 c = fixed-go _ _ _ _ (c .before .before .before .if1 .left) (c .before .before .misnumbered .ensures) (c .before .if2 .left) (c .if3 .left)
 

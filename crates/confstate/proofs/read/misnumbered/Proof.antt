@@ -1,17 +1,12 @@
+-- `confstate::read::misnumbered` meets its contract. Assumes nothing.
 use borrow.Author.Tests.{eq-eqb}
 use Rattle.confstate.proofs.Fields.{beyond}
-use borrow.Author.Needs.{needs}
-use native.Mathlib.Omega.{arith}
 use Rattle.confstate.proofs.read.misnumbered.Statement.{statement}
 use Rattle.confstate.proofs.read.misnumbered.Tie as tie
-use Rattle.confstate.proofs.read.misnumbered.Reads as reads
-use Rattle.confstate.proofs.read.misnumbered.Lts as lts
 
--- src/read.rt:105:9
 returns : tie.Need-returns
 returns c = rw (eq-eqb _ _ (c .if1 .taken))
 
--- src/read.rt:101:1
 returns-2 : tie.Need-returns-2
 returns-2 c = beyond (c .before .args .number) (c .if1 .left)
 

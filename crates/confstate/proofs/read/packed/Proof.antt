@@ -1,3 +1,4 @@
+-- `confstate::read::packed` meets its contract. Assumes nothing.
 use Rattle.confstate.proofs.Packing.{Packing, packing-start, packing-one, packing-cut, packing-next, packing-over, value-within, over-within, packing-29, packing-30, packing-all}
 use Rattle.confstate.specs.Words.{listIn}
 use lib.ListN.{length, length-set}
@@ -7,10 +8,6 @@ use borrow.Author.Needs.{needs}
 use native.Mathlib.Omega.{arith}
 use Rattle.confstate.proofs.read.packed.Statement.{statement}
 use Rattle.confstate.proofs.read.packed.Tie as tie
-use Rattle.confstate.proofs.read.packed.Reads as reads
-use Rattle.confstate.proofs.read.packed.Lts as lts
-use Rattle.confstate.proofs.read.store.Reads as store-reads
-use Rattle.wire.proofs.read_varint.Reads as read-varint-reads
 
 abbrev Inv-loop : tie.InvT-loop
 Inv-loop bytes list₀ n₀ over₀ p₀ list n over p = Packing bytes (listIn list₀ 0) (length (listIn list₀ 0)) list n over p
@@ -18,103 +15,78 @@ Inv-loop bytes list₀ n₀ over₀ p₀ list n over p = Packing bytes (listIn l
 abbrev μ-loop : tie.MeasureT-loop
 μ-loop bytes list₀ n₀ over₀ p₀ list n over p = length bytes - p
 
--- src/read.rt:222:17
 slice-read-n : tie.Need-slice-read-n Inv-loop μ-loop
 slice-read-n c = search needs
 
--- src/read.rt:225:5
 loop-holds : tie.Need-loop-holds Inv-loop μ-loop
 loop-holds c = packing-start (c .before .before .before .pre)
 
--- src/read.rt:226:17
 shared-slice-read-b : tie.Need-shared-slice-read-b Inv-loop μ-loop
 shared-slice-read-b c = search needs
 
--- src/read.rt:226:17
 cast-b : tie.Need-cast-b Inv-loop μ-loop
 cast-b c = omega (arith, c .shared-slice-known2 .given (c .before .before .loop .p))
 
--- src/read.rt:228:13
 store-requires : tie.Need-store-requires Inv-loop μ-loop
 store-requires c κs = search needs
 
--- src/read.rt:229:13
 add-n : tie.Need-add-n Inv-loop μ-loop
 add-n c = omega (arith, c .before .before .before .before .before .before .before .loop .inv .bound, c .before .before .before .before .before .before .loop-test .taken)
 
--- src/read.rt:230:13
 add-p : tie.Need-add-p Inv-loop μ-loop
 add-p c = search needs
 
--- src/read.rt:225:5
 loop-less : tie.Need-loop-less Inv-loop μ-loop
 loop-less c = search needs
 
--- src/read.rt:225:5
 loop-again : tie.Need-loop-again Inv-loop μ-loop
 loop-again c = packing-one (c .before .before .before .before .before .before .before .loop .inv) (c .before .before .before .before .before .before .loop-test .taken) (c .before .before .before .before .if1 .taken) (c .before .before .store .ensures)
 
--- src/read.rt:233:13
 read-varint-requires : tie.Need-read-varint-requires Inv-loop μ-loop
 read-varint-requires c κs = search needs
 
--- src/read.rt:235:13
 same-length : tie.Need-same-length Inv-loop μ-loop
 same-length c = search needs
 
--- src/read.rt:235:13
 returns : tie.Need-returns Inv-loop μ-loop
 returns c = packing-cut (c .before .before .before .before .before .before .loop .inv) (c .before .before .before .before .before .loop-test .taken) (c .before .before .read-varint .ensures) (c .if2 .taken)
 
--- src/read.rt:239:13
 store-requires-2 : tie.Need-store-requires-2 Inv-loop μ-loop
 store-requires-2 c κs = search needs
 
--- src/read.rt:240:13
 add-n-2 : tie.Need-add-n-2 Inv-loop μ-loop
 add-n-2 c = omega (arith, c .before .before .before .before .before .before .before .before .before .before .before .before .loop .inv .bound, c .before .before .before .before .before .before .before .before .before .before .before .loop-test .taken)
 
--- src/read.rt:225:5
 loop-less-2 : tie.Need-loop-less-2 Inv-loop μ-loop
 loop-less-2 c = omega (arith, value-within (c .before .before .before .before .before .before .before .before .before .before .before .before .loop .inv) (c .before .before .before .before .before .before .before .before .before .before .before .loop-test .taken) (c .before .before .before .before .before .before .before .before .read-varint .ensures) (c .before .before .before .before .if3 .taken) .0, value-within (c .before .before .before .before .before .before .before .before .before .before .before .before .loop .inv) (c .before .before .before .before .before .before .before .before .before .before .before .loop-test .taken) (c .before .before .before .before .before .before .before .before .read-varint .ensures) (c .before .before .before .before .if3 .taken) .1)
 
--- src/read.rt:225:5
 loop-again-2 : tie.Need-loop-again-2 Inv-loop μ-loop
 loop-again-2 c = packing-next (c .before .before .before .before .before .before .before .before .before .before .before .before .loop .inv) (c .before .before .before .before .before .before .before .before .before .before .before .loop-test .taken) (c .before .before .before .before .before .before .before .before .read-varint .ensures) (c .before .before .before .before .if3 .taken) (c .before .before .store2 .ensures)
 
--- src/read.rt:225:5
 loop-less-3 : tie.Need-loop-less-3 Inv-loop μ-loop
 loop-less-3 c = omega (arith, over-within (c .before .before .before .before .before .before .before .before .loop .inv) (c .before .before .before .before .before .before .before .loop-test .taken) (c .before .before .before .before .read-varint .ensures) (c .if3 .left) (c .before .before .if2 .left) .0, over-within (c .before .before .before .before .before .before .before .before .loop .inv) (c .before .before .before .before .before .before .before .loop-test .taken) (c .before .before .before .before .read-varint .ensures) (c .if3 .left) (c .before .before .if2 .left) .1)
 
--- src/read.rt:225:5
 loop-again-3 : tie.Need-loop-again-3 Inv-loop μ-loop
 loop-again-3 c = packing-over (c .before .before .before .before .before .before .before .before .loop .inv) (c .before .before .before .before .before .before .before .loop-test .taken) (c .before .before .before .before .read-varint .ensures) (c .if3 .left) (c .before .before .if2 .left)
 
--- src/read.rt:246:9
 same-length-2 : tie.Need-same-length-2 Inv-loop μ-loop
 same-length-2 c = search needs
 
--- src/read.rt:246:9
 returns-2 : tie.Need-returns-2 Inv-loop μ-loop
 returns-2 c = packing-29 (c .before .before .loop .inv) (c .before .loop-test .left) (c .if4 .taken)
 
--- src/read.rt:249:9
 same-length-3 : tie.Need-same-length-3 Inv-loop μ-loop
 same-length-3 c = search needs
 
--- src/read.rt:249:9
 returns-3 : tie.Need-returns-3 Inv-loop μ-loop
 returns-3 c = packing-30 (c .before .before .before .loop .inv) (c .before .before .loop-test .left) (c .before .if4 .left) (c .if5 .taken)
 
--- src/read.rt:251:5
 slice-write-list : tie.Need-slice-write-list Inv-loop μ-loop
 slice-write-list c = search needs
 
--- src/read.rt:218:1
 same-length-4 : tie.Need-same-length-4 Inv-loop μ-loop
 same-length-4 c = length-set (c .before .before .before .loop .list) 64 (c .before .before .before .loop .n) ∙ (c .before .before .before .loop .inv .long ∙ sym (c .before .before .before .before .before .before .before .pre .long))
 
--- src/read.rt:218:1
 returns-4 : tie.Need-returns-4 Inv-loop μ-loop
 returns-4 c = packing-all (c .before .before .before .loop .inv) (c .before .before .loop-test .left) (c .before .if4 .left) (c .if5 .left)
 

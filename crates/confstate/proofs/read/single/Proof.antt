@@ -1,39 +1,30 @@
+-- `confstate::read::single` meets its contract. Assumes nothing.
 use Rattle.confstate.proofs.Fields.{single-full, single-more}
 use borrow.Author.Needs.{needs}
 use Rattle.confstate.proofs.read.single.Statement.{statement}
 use Rattle.confstate.proofs.read.single.Tie as tie
-use Rattle.confstate.proofs.read.single.Reads as reads
-use Rattle.confstate.proofs.read.single.Lts as lts
 
--- src/read.rt:207:13
 slice-read-n : tie.Need-slice-read-n
 slice-read-n c = search needs
 
--- src/read.rt:209:9
 returns : tie.Need-returns
 returns c = single-full (c .before .before .pre) (c .before .before .args .value) (c .if1 .taken)
 
--- src/read.rt:211:5
 mul-list : tie.Need-mul-list
 mul-list c = search needs
 
--- src/read.rt:211:5
 slice-write-list : tie.Need-slice-write-list
 slice-write-list c = search needs
 
--- src/read.rt:212:16
 add-list : tie.Need-add-list
 add-list c = search needs
 
--- src/read.rt:212:5
 slice-write-list-2 : tie.Need-slice-write-list-2
 slice-write-list-2 c = search needs
 
--- src/read.rt:203:1
 same-length : tie.Need-same-length
 same-length c = search needs
 
--- src/read.rt:203:1
 returns-2 : tie.Need-returns-2
 returns-2 c = single-more (c .before .before .pre) (c .before .before .args .value) (c .if1 .left)
 
