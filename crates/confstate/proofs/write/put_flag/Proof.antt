@@ -1,7 +1,7 @@
 -- `write::put_flag` meets its contract: nothing, or two bytes. Assumes nothing.
 use native.Mathlib.Omega.{arith}
 use borrow.Author.Needs.{needs}
-use lib.ListN.{length-set}
+use lib.Seq.{lt-length-set}
 use Rattle.confstate.proofs.Writing.{flag-none, flag-room, flag-put}
 use Rattle.confstate.proofs.write.put_flag.Statement.{statement}
 use Rattle.confstate.proofs.write.put_flag.Tie as tie
@@ -16,7 +16,9 @@ add-out : tie.Need-add-out
 add-out c = search needs
 
 slice-write-out-2 : tie.Need-slice-write-out-2
-slice-write-out-2 c = omega (arith, flag-room (c .before .args .at) (c .before .pre .0) (c .if1 .left) (c .before .pre .1), length-set (c .before .args .out .now) (c .before .args .at) 40)
+slice-write-out-2 c =
+    lt-length-set (c .before .args .out .now) (c .before .args .at) _
+    (omega (arith, flag-room (c .before .args .at) (c .before .pre .0) (c .if1 .left) (c .before .pre .1)))
 
 add-result : tie.Need-add-result
 add-result c = search needs
