@@ -7,15 +7,15 @@ use mathlib.Core.List.{List, [], ◌∷◌, ◌++◌}
 use native.Mathlib.Omega.{arith}
 use lib.ListN.{length, take, replicate}
 use Rattle.progress.specs.declared.Progress.{Progress}
-use Rattle.progress.specs.Record.{unusedRecord}
+use Rattle.progress.specs.Record.{unused_record}
 use Rattle.rules.specs.State.{Conf, Entry, Peer, State, formed, ids}
 use Rattle.rules.specs.Apply.{written}
 use Rattle.rules.proofs.Formed as forms
 use Rattle.rules.proofs.Formed.{whole_of}
-use Rattle.idset.specs.Set.{held, setOf}
+use Rattle.idset.specs.Set.{held, set_of}
 use Rattle.idset.specs.declared.IdSet.{IdSet}
-use Rattle.idset.proofs.Padded.{padded-long}
-use Rattle.tracker.specs.Bridge.{blank, changeLogOf, confOf, confStateOf, configurationOf, entriesOf, entry, listIn, lists_of, logOf, mapChangesOf, peersOf, recordPlaces, recordsOf, state_of, trackerOf}
+use Rattle.idset.proofs.Padded.{padded_long}
+use Rattle.tracker.specs.Bridge.{blank, change_log_of, conf_of, conf_state_of, configuration_of, entries_of, entry, list_in, lists_of, log_of, map_changes_of, peers_of, record_places, records_of, state_of, tracker_of}
 use Rattle.tracker.specs.declared.Configuration.{Configuration}
 use Rattle.tracker.specs.declared.MapChangeType.{MapChangeType}
 use Rattle.tracker.specs.declared.MapChangeType.TheVariants.{Add, Remove}
@@ -24,7 +24,7 @@ use Rattle.tracker.specs.declared.ChangeLog.{ChangeLog}
 use Rattle.tracker.specs.declared.Tracker.{Tracker}
 use Rattle.tracker.specs.declared.ConfState.{ConfState}
 use Rattle.tracker.proofs.Peers.{length_ids, length-records}
-use Rattle.calls.specs.Call.{noLists}
+use Rattle.calls.specs.Call.{no_lists}
 use Rattle.calls.proofs.Typed.{U64, Each, none, more, each_append, ArrayOf, TypedSet, TypedList, TypedConf, TypedRecord, TypedState, TypedEntry, TypedLog, TypedConfState}
 use Rattle.calls.proofs.TypedRules.{U64Conf, U64Entry, U64Lists, U64Peer, U64State, adding, removing}
 
@@ -41,56 +41,56 @@ each_same P (suc n) h = more h (each_same P n h)
 
 -- the places that are left hold x
 padded : {A : Type 0} (P : A → Type 0) (m n : ℕ) (x : A) {xs : List A} → P x → Each P xs → length xs ≡ n → n ≤ m → ArrayOf m P (xs ++ replicate (m - n) x)
-padded P m n x {xs} h p e k = record { places = padded-long x m n xs e k; each = each_append p (each_same P (m - n) h) }
+padded P m n x {xs} h p e k = record { places = padded_long x m n xs e k; each = each_append p (each_same P (m - n) h) }
 
 -- ** From the structs to the rules
 
-held-u64 : {s : IdSet} → TypedSet s → Each U64 (held s)
-held-u64 {s} z = each_take s.len z.ids.each
+held_u64 : {s : IdSet} → TypedSet s → Each U64 (held s)
+held_u64 {s} z = each_take s.len z.ids.each
 
-pub conf-u64 : {c : Configuration} → TypedConf c → U64Conf (confOf c)
-conf-u64 z = record { incoming = held-u64 z.incoming; outgoing = held-u64 z.outgoing; learners = held-u64 z.learners; staged = held-u64 z.learners_next }
+pub conf_u64 : {c : Configuration} → TypedConf c → U64Conf (conf_of c)
+conf_u64 z = record { incoming = held_u64 z.incoming; outgoing = held_u64 z.outgoing; learners = held_u64 z.learners; staged = held_u64 z.learners_next }
 
-peers-u64 : {xs : List ℕ} {rs : List Progress} → Each U64 xs → Each TypedRecord rs → Each U64Peer (peersOf xs rs)
-unfolding peersOf
-peers-u64 none q = none
-peers-u64 (more h p) none = none
-peers-u64 (more h p) (more k q) = more (record { id = h; progress = k }) (peers-u64 p q)
+peers_u64 : {xs : List ℕ} {rs : List Progress} → Each U64 xs → Each TypedRecord rs → Each U64Peer (peers_of xs rs)
+unfolding peers_of
+peers_u64 none q = none
+peers_u64 (more h p) none = none
+peers_u64 (more h p) (more k q) = more (record { id = h; progress = k }) (peers_u64 p q)
 
-pub state-u64 : {t : Tracker} → TypedState t → U64State (state_of t)
-state-u64 z = record { conf = conf-u64 z.conf; peers = peers-u64 (held-u64 z.ids) z.records.each; maxInflight = z.max_inflight }
+pub state_u64 : {t : Tracker} → TypedState t → U64State (state_of t)
+state_u64 z = record { conf = conf_u64 z.conf; peers = peers_u64 (held_u64 z.ids) z.records.each; max_inflight = z.max_inflight }
 
-entries-u64 : {es : List MapChange} → Each TypedEntry es → Each U64Entry (entriesOf es)
-unfolding entriesOf
-entries-u64 none = none
-entries-u64 {es = e ∷ es} (more h p) = more (go e.kind) (entries-u64 p)
+entries_u64 : {es : List MapChange} → Each TypedEntry es → Each U64Entry (entries_of es)
+unfolding entries_of
+entries_u64 none = none
+entries_u64 {es = e ∷ es} (more h p) = more (go e.kind) (entries_u64 p)
   where
     go : (k : MapChangeType) → U64Entry (entry k e.id)
     go Add = adding h.id
     go Remove = removing h.id
 
-pub log-u64 : {l : ChangeLog} → TypedLog l → Each U64Entry (logOf l)
-log-u64 {l} z = entries-u64 (each_take l.count z.entries.each)
+pub log_u64 : {l : ChangeLog} → TypedLog l → Each U64Entry (log_of l)
+log_u64 {l} z = entries_u64 (each_take l.count z.entries.each)
 
-pub lists-u64 : {c : ConfState} → TypedConfState c → U64Lists (lists_of c)
-lists-u64 {c} z =
+pub lists_u64 : {c : ConfState} → TypedConfState c → U64Lists (lists_of c)
+lists_u64 {c} z =
     record {
       voters = each_take c.voters.len z.voters.ids.each;
       learners = each_take c.learners.len z.learners.ids.each;
-      votersOutgoing = each_take c.voters_outgoing.len z.voters_outgoing.ids.each;
-      learnersNext = each_take c.learners_next.len z.learners_next.ids.each;
+      voters_outgoing = each_take c.voters_outgoing.len z.voters_outgoing.ids.each;
+      learners_next = each_take c.learners_next.len z.learners_next.ids.each;
     }
 
 -- ** And back
 
-set-made : {xs : List ℕ} → Each U64 xs → length xs ≤ 64 → TypedSet (setOf xs)
-unfolding setOf
+set-made : {xs : List ℕ} → Each U64 xs → length xs ≤ 64 → TypedSet (set_of xs)
+unfolding set_of
 set-made {xs} p h = record { ids = padded U64 64 (length xs) 0 (omega arith) p refl h; len = omega arith }
 
-list-made : {s : IdSet} → TypedSet s → TypedList (listIn s)
-list-made z = record { ids = z.ids; len = z.len }
+list_made : {s : IdSet} → TypedSet s → TypedList (list_in s)
+list_made z = record { ids = z.ids; len = z.len }
 
-pub conf-made : {c : Conf} → U64Conf c → forms.Sets c → TypedConf (configurationOf c)
+pub conf-made : {c : Conf} → U64Conf c → forms.Sets c → TypedConf (configuration_of c)
 conf-made z f =
     record {
       incoming = set-made z.incoming f.incoming.few;
@@ -99,33 +99,33 @@ conf-made z f =
       learners_next = set-made z.staged f.staged.few;
     }
 
-pub lists-made : {c : Conf} → U64Conf c → forms.Sets c → TypedConfState (confStateOf (written c))
+pub lists-made : {c : Conf} → U64Conf c → forms.Sets c → TypedConfState (conf_state_of (written c))
 lists-made z f =
     record {
-      voters = list-made (set-made z.incoming f.incoming.few);
-      learners = list-made (set-made z.learners f.learners.few);
-      voters_outgoing = list-made (set-made z.outgoing f.outgoing.few);
-      learners_next = list-made (set-made z.staged f.staged.few);
+      voters = list_made (set-made z.incoming f.incoming.few);
+      learners = list_made (set-made z.learners f.learners.few);
+      voters_outgoing = list_made (set-made z.outgoing f.outgoing.few);
+      learners_next = list_made (set-made z.staged f.staged.few);
     }
 
-pub no-lists : TypedConfState noLists
-no-lists = record { voters = no-list; learners = no-list; voters_outgoing = no-list; learners_next = no-list }
+pub no_lists_lem : TypedConfState no_lists
+no_lists_lem = record { voters = no_list_lem; learners = no_list_lem; voters_outgoing = no_list_lem; learners_next = no_list_lem }
   where
-    no-list : TypedList (listIn (setOf []))
-    no-list = list-made (set-made none (omega arith))
+    no_list_lem : TypedList (list_in (set_of []))
+    no_list_lem = list_made (set-made none (omega arith))
 
-ids-u64 : {ps : List Peer} → Each U64Peer ps → Each U64 (ids ps)
+ids_u64 : {ps : List Peer} → Each U64Peer ps → Each U64 (ids ps)
 unfolding ids
-ids-u64 none = none
-ids-u64 (more h p) = more h.id (ids-u64 p)
+ids_u64 none = none
+ids_u64 (more h p) = more h.id (ids_u64 p)
 
-records-u64 : {ps : List Peer} → Each U64Peer ps → Each TypedRecord (recordsOf ps)
-unfolding recordsOf
-records-u64 none = none
-records-u64 (more h p) = more h.progress (records-u64 p)
+records_u64 : {ps : List Peer} → Each U64Peer ps → Each TypedRecord (records_of ps)
+unfolding records_of
+records_u64 none = none
+records_u64 (more h p) = more h.progress (records_u64 p)
 
-unused-typed : TypedRecord unusedRecord
-unused-typed =
+unused_typed : TypedRecord unused_record
+unused_typed =
     record {
       matched = omega arith;
       next_idx = omega arith;
@@ -136,28 +136,28 @@ unused-typed =
       committed_index = omega arith;
     }
 
-pub state-made : {s : State} → U64State s → formed s ≡ true → TypedState (trackerOf s)
-unfolding recordPlaces
+pub state-made : {s : State} → U64State s → formed s ≡ true → TypedState (tracker_of s)
+unfolding record_places
 state-made {s} z f =
     let w = whole_of s f in
     record {
       conf = conf-made z.conf w.sets;
-      ids = set-made (ids-u64 z.peers) w.tracked.few;
-      records = padded TypedRecord 64 (length s.peers) unusedRecord unused-typed (records-u64 z.peers) (length-records s.peers) (omega (arith, w.tracked.few, length_ids s.peers));
-      max_inflight = z.maxInflight;
+      ids = set-made (ids_u64 z.peers) w.tracked.few;
+      records = padded TypedRecord 64 (length s.peers) unused_record unused_typed (records_u64 z.peers) (length-records s.peers) (omega (arith, w.tracked.few, length_ids s.peers));
+      max_inflight = z.max_inflight;
     }
 
-changes-made : {es : List Entry} → Each U64Entry es → Each TypedEntry (mapChangesOf es)
-unfolding mapChangesOf
+changes-made : {es : List Entry} → Each U64Entry es → Each TypedEntry (map_changes_of es)
+unfolding map_changes_of
 changes-made none = none
 changes-made (more (adding h) p) = more (record { id = h }) (changes-made p)
 changes-made (more (removing h) p) = more (record { id = h }) (changes-made p)
 
-length-made : (es : List Entry) → length (mapChangesOf es) ≡ length es
-unfolding mapChangesOf
+length-made : (es : List Entry) → length (map_changes_of es) ≡ length es
+unfolding map_changes_of
 length-made [] = refl
 length-made (e ∷ es) = ap suc (length-made es)
 
-pub log-made : {es : List Entry} → Each U64Entry es → length es ≤ 256 → TypedLog (changeLogOf es)
-unfolding changeLogOf
+pub log-made : {es : List Entry} → Each U64Entry es → length es ≤ 256 → TypedLog (change_log_of es)
+unfolding change_log_of
 log-made {es} p h = record { entries = padded TypedEntry 256 (length es) blank (record { id = omega arith }) (changes-made p) (length-made es) h; count = omega arith }

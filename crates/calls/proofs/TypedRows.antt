@@ -57,13 +57,13 @@ set_typed {vs} s p =
     let o = LL.owed I.the_type I'.the_laws s vs p in
     record { ids = array_typed u64-field (λ x v q. q.1) s.ids o.0; len = o.1.0.1 }
 
-pub list-typed : {vs : List Val} (l : IdList) → Is L.the_row l vs → TypedList l
-list-typed {vs} l p =
+pub list_typed : {vs : List Val} (l : IdList) → Is L.the_row l vs → TypedList l
+list_typed {vs} l p =
     let o = LL.owed L.the_type L'.the_laws l vs p in
     record { ids = array_typed u64-field (λ x v q. q.1) l.ids o.0; len = o.1.0.1 }
 
-pub conf-typed : {vs : List Val} (c : Configuration) → Is K.the_row c vs → TypedConf c
-conf-typed {vs} c p =
+pub conf_typed : {vs : List Val} (c : Configuration) → Is K.the_row c vs → TypedConf c
+conf_typed {vs} c p =
     let o = LL.owed K.the_type K'.the_laws c vs p in
     record {
       incoming = set_typed c.incoming o.0;
@@ -72,8 +72,8 @@ conf-typed {vs} c p =
       learners_next = set_typed c.learners_next o.1.1.1.0;
     }
 
-pub record-typed : {vs : List Val} (p : Progress) → Is P.the_row p vs → TypedRecord p
-record-typed {vs} p q =
+pub record_typed : {vs : List Val} (p : Progress) → Is P.the_row p vs → TypedRecord p
+record_typed {vs} p q =
     let o = LL.owed P.the_type P'.the_laws p vs q in
     record {
       matched = o.0.1;
@@ -85,42 +85,42 @@ record-typed {vs} p q =
       committed_index = o.1.1.1.1.1.1.1.1.1.0.1;
     }
 
-pub state-typed : {vs : List Val} (t : Tracker) → Is T.the_row t vs → TypedState t
-state-typed {vs} t p =
+pub state_typed : {vs : List Val} (t : Tracker) → Is T.the_row t vs → TypedState t
+state_typed {vs} t p =
     let o = LL.owed T.the_type T'.the_laws t vs p in
     record {
-      conf = conf-typed t.conf o.0;
+      conf = conf_typed t.conf o.0;
       ids = set_typed t.ids o.1.0;
-      records = array_typed (field P.the_type) (λ x v q. record-typed x q) t.records o.1.1.0;
+      records = array_typed (field P.the_type) (λ x v q. record_typed x q) t.records o.1.1.0;
       max_inflight = o.1.1.1.0.1;
     }
 
-entry-typed : {vs : List Val} (e : MapChange) → Is M.the_row e vs → TypedEntry e
-entry-typed {vs} e p = record { id = (LL.owed M.the_type M'.the_laws e vs p).0.1 }
+entry_typed : {vs : List Val} (e : MapChange) → Is M.the_row e vs → TypedEntry e
+entry_typed {vs} e p = record { id = (LL.owed M.the_type M'.the_laws e vs p).0.1 }
 
-pub log-typed : {vs : List Val} (l : ChangeLog) → Is G.the_row l vs → TypedLog l
-log-typed {vs} l p =
+pub log_typed : {vs : List Val} (l : ChangeLog) → Is G.the_row l vs → TypedLog l
+log_typed {vs} l p =
     let o = LL.owed G.the_type G'.the_laws l vs p in
-    record { entries = array_typed (field M.the_type) (λ x v q. entry-typed x q) l.entries o.0; count = o.1.0.1 }
+    record { entries = array_typed (field M.the_type) (λ x v q. entry_typed x q) l.entries o.0; count = o.1.0.1 }
 
-pub conf-state-typed : {vs : List Val} (c : ConfState) → Is S.the_row c vs → TypedConfState c
-conf-state-typed {vs} c p =
+pub conf_state_typed : {vs : List Val} (c : ConfState) → Is S.the_row c vs → TypedConfState c
+conf_state_typed {vs} c p =
     let o = LL.owed S.the_type S'.the_laws c vs p in
     record {
-      voters = list-typed c.voters o.0;
-      learners = list-typed c.learners o.1.0;
-      voters_outgoing = list-typed c.voters_outgoing o.1.1.0;
-      learners_next = list-typed c.learners_next o.1.1.1.0;
+      voters = list_typed c.voters o.0;
+      learners = list_typed c.learners o.1.0;
+      voters_outgoing = list_typed c.voters_outgoing o.1.1.0;
+      learners_next = list_typed c.learners_next o.1.1.1.0;
     }
 
-pub reply-typed : {vs : List Val} (r : Reply) → Is R.the_row r vs → TypedReply r
-reply-typed {vs} r p =
+pub reply_typed : {vs : List Val} (r : Reply) → Is R.the_row r vs → TypedReply r
+reply_typed {vs} r p =
     let o = LL.owed R.the_type R'.the_laws r vs p in
     record {
       number = o.0.1;
       id = o.1.0.1;
-      tracker = state-typed r.tracker o.1.1.1.0;
-      log = log-typed r.log o.1.1.1.1.0;
-      conf_state = conf-state-typed r.conf_state o.1.1.1.1.1.0;
+      tracker = state_typed r.tracker o.1.1.1.0;
+      log = log_typed r.log o.1.1.1.1.0;
+      conf_state = conf_state_typed r.conf_state o.1.1.1.1.1.0;
       idle = o.1.1.1.1.1.1.0.1;
     }

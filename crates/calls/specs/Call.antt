@@ -1,8 +1,8 @@
 -- One call on any state, in bytes: docs/EMBEDDING.md. Assumes nothing.
 use Rattle.std.specs.Prelude.{ℕ, ◌+◌, Bool, false, not, cond, List, [], ◌∷◌, ◌++◌, eqb, ltb, length, take, drop}
-use Rattle.rules.specs.Apply.{noConfState}
-use Rattle.tracker.specs.Bridge.{changeLogOf, confStateOf}
-use Rattle.tracker.specs.Apply.{applyOf}
+use Rattle.rules.specs.Apply.{no_conf_state}
+use Rattle.tracker.specs.Bridge.{change_log_of, conf_state_of}
+use Rattle.tracker.specs.Apply.{apply_of}
 use Rattle.tracker.specs.ConfStates.{written_of}
 use Rattle.tracker.specs.declared.Configuration.{Configuration}
 use Rattle.tracker.specs.declared.ChangeLog.{ChangeLog}
@@ -11,13 +11,13 @@ use Rattle.tracker.specs.declared.ConfState.{ConfState}
 use Rattle.tracker.specs.declared.Outcome.{Outcome}
 use Rattle.tracker.specs.declared.Verdict.{Verdict}
 use Rattle.tracker.specs.declared.Written.{Written}
-use Rattle.invariants.specs.Check.{checkOf, inOrderOf}
+use Rattle.invariants.specs.Check.{check_of, in_order_of}
 use Rattle.changer.specs.declared.Answer.{Answer}
-use Rattle.changer.specs.Calls.{simpleAnswer, enterAnswer, leaveAnswer}
-use Rattle.restore.specs.Restore.{restoreOf, stepByStepOf}
+use Rattle.changer.specs.Calls.{simple_answer, enter_answer, leave_answer}
+use Rattle.restore.specs.Restore.{restore_of, step_by_step_of}
 use Rattle.unplug.specs.Words.{flag}
-use Rattle.calls.specs.Layout.{word, confAt, stateAt, log_at, confStateAt, changeListAt, holds}
-use Rattle.calls.specs.Reply.{all_bytes, flagWord, stateWords, logWords, confStateWords}
+use Rattle.calls.specs.Layout.{word, conf_at, state_at, log_at, conf_state_at, change_list_at, holds}
+use Rattle.calls.specs.Reply.{all_bytes, flag_word, state_words, log_words, conf_state_words}
 use Rattle.calls.specs.declared.Reply.{Reply}
 
 -- ** What a call answers
@@ -26,70 +26,70 @@ use Rattle.calls.specs.declared.Reply.{Reply}
 abbrev pub reply : ℕ → ℕ → Bool → Tracker → ChangeLog → ConfState → ℕ → Reply
 reply n x b t log cs i = record { number = n; id = x; yes = b; tracker = t; log = log; conf_state = cs; idle = i }
 
-abbrev pub noLog : ChangeLog
-noLog = changeLogOf []
+abbrev pub no_log : ChangeLog
+no_log = change_log_of []
 
-abbrev pub noLists : ConfState
-noLists = confStateOf noConfState
+abbrev pub no_lists : ConfState
+no_lists = conf_state_of no_conf_state
 
 -- the state with another configuration
-abbrev pub withConf : Tracker → Configuration → Tracker
-withConf t c = record { conf = c; ids = t.ids; records = t.records; max_inflight = t.max_inflight }
+abbrev pub with_conf : Tracker → Configuration → Tracker
+with_conf t c = record { conf = c; ids = t.ids; records = t.records; max_inflight = t.max_inflight }
 
-abbrev pub fromVerdict : Tracker → Verdict → Reply
-fromVerdict t v = reply v.number v.id false t noLog noLists 0
+abbrev pub from_verdict : Tracker → Verdict → Reply
+from_verdict t v = reply v.number v.id false t no_log no_lists 0
 
-abbrev pub fromAnswer : Tracker → Answer → Reply
-fromAnswer t a = reply a.number a.id false (withConf t a.conf) a.log noLists a.idle
+abbrev pub from_answer : Tracker → Answer → Reply
+from_answer t a = reply a.number a.id false (with_conf t a.conf) a.log no_lists a.idle
 
-abbrev pub fromOutcome : Outcome → Reply
-fromOutcome o = reply o.number o.id false o.tracker noLog noLists 0
+abbrev pub from_outcome : Outcome → Reply
+from_outcome o = reply o.number o.id false o.tracker no_log no_lists 0
 
-abbrev pub fromWritten : Tracker → Written → Reply
-fromWritten t w = reply w.number w.id false t noLog w.conf_state 0
+abbrev pub from_written : Tracker → Written → Reply
+from_written t w = reply w.number w.id false t no_log w.conf_state 0
 
 -- the ids and the kinds of the LIST
 abbrev pub ids_in : List ℕ → List ℕ
-ids_in s = take (word s 1230) (changeListAt s 970).ids
+ids_in s = take (word s 1230) (change_list_at s 970).ids
 
-abbrev pub kindsIn : List ℕ → List ℕ
-kindsIn s = take (word s 1491) (changeListAt s 970).kinds
+abbrev pub kinds_in : List ℕ → List ℕ
+kinds_in s = take (word s 1491) (change_list_at s 970).kinds
 
 -- 2 simple, 3 enter_joint, 4 leave_joint
-abbrev pub askIn : List ℕ → ℕ → Tracker → Answer
-askIn s call t =
-    cond (eqb call 4) (leaveAnswer t)
-    (cond (eqb call 2) (simpleAnswer t (ids_in s) (kindsIn s)) (enterAnswer t (flag (word s 968)) (ids_in s) (kindsIn s)))
+abbrev pub ask_in : List ℕ → ℕ → Tracker → Answer
+ask_in s call t =
+    cond (eqb call 4) (leave_answer t)
+    (cond (eqb call 2) (simple_answer t (ids_in s) (kinds_in s)) (enter_answer t (flag (word s 968)) (ids_in s) (kinds_in s)))
 
 -- 7 restore, 8 restore_step_by_step
-abbrev pub restoredIn : List ℕ → ℕ → Outcome
-restoredIn s call = cond (eqb call 7) (restoreOf (stateAt s 1) (confStateAt s 2266) (word s 969)) (stepByStepOf (stateAt s 1) (confStateAt s 2266) (word s 969))
+abbrev pub restored_in : List ℕ → ℕ → Outcome
+restored_in s call = cond (eqb call 7) (restore_of (state_at s 1) (conf_state_at s 2266) (word s 969)) (step_by_step_of (state_at s 1) (conf_state_at s 2266) (word s 969))
 
-unfoldable pub replyTo : List ℕ → Reply
-replyTo s =
-    cond (eqb (word s 0) 0) (fromVerdict (stateAt s 1) (checkOf (stateAt s 1)))
-    (cond (eqb (word s 0) 1) (reply 0 0 (inOrderOf (stateAt s 1)) (stateAt s 1) noLog noLists 0)
-    (cond (eqb (word s 0) 2) (fromAnswer (stateAt s 1) (simpleAnswer (stateAt s 1) (ids_in s) (kindsIn s)))
-    (cond (eqb (word s 0) 3) (fromAnswer (stateAt s 1) (enterAnswer (stateAt s 1) (flag (word s 968)) (ids_in s) (kindsIn s)))
-    (cond (eqb (word s 0) 4) (fromAnswer (stateAt s 1) (leaveAnswer (stateAt s 1)))
-    (cond (eqb (word s 0) 5) (fromOutcome (applyOf (stateAt s 1) (confAt s 1492) (log_at s 1753) (word s 969)))
-    (cond (eqb (word s 0) 6) (fromWritten (stateAt s 1) (written_of (stateAt s 1)))
-    (cond (eqb (word s 0) 7) (fromOutcome (restoreOf (stateAt s 1) (confStateAt s 2266) (word s 969)))
-    (fromOutcome (stepByStepOf (stateAt s 1) (confStateAt s 2266) (word s 969))))))))))
+unfoldable pub reply_to : List ℕ → Reply
+reply_to s =
+    cond (eqb (word s 0) 0) (from_verdict (state_at s 1) (check_of (state_at s 1)))
+    (cond (eqb (word s 0) 1) (reply 0 0 (in_order_of (state_at s 1)) (state_at s 1) no_log no_lists 0)
+    (cond (eqb (word s 0) 2) (from_answer (state_at s 1) (simple_answer (state_at s 1) (ids_in s) (kinds_in s)))
+    (cond (eqb (word s 0) 3) (from_answer (state_at s 1) (enter_answer (state_at s 1) (flag (word s 968)) (ids_in s) (kinds_in s)))
+    (cond (eqb (word s 0) 4) (from_answer (state_at s 1) (leave_answer (state_at s 1)))
+    (cond (eqb (word s 0) 5) (from_outcome (apply_of (state_at s 1) (conf_at s 1492) (log_at s 1753) (word s 969)))
+    (cond (eqb (word s 0) 6) (from_written (state_at s 1) (written_of (state_at s 1)))
+    (cond (eqb (word s 0) 7) (from_outcome (restore_of (state_at s 1) (conf_state_at s 2266) (word s 969)))
+    (from_outcome (step_by_step_of (state_at s 1) (conf_state_at s 2266) (word s 969))))))))))
 
 -- ** What the entry returns and leaves
 
-unfoldable pub replyWords : Reply → List ℕ
-replyWords r = r.number ∷ r.id ∷ flagWord r.yes ∷ (stateWords r.tracker ++ (logWords r.log ++ (confStateWords r.conf_state ++ (r.idle ∷ []))))
+unfoldable pub reply_words : Reply → List ℕ
+reply_words r = r.number ∷ r.id ∷ flag_word r.yes ∷ (state_words r.tracker ++ (log_words r.log ++ (conf_state_words r.conf_state ++ (r.idle ∷ []))))
 
 -- 1: the request's length; 2: the reply too short; 3: unknown call; 4: a word that no field can hold
-unfoldable pub callAnswer : List ℕ → ℕ → ℕ
-callAnswer s room =
+unfoldable pub call_answer : List ℕ → ℕ → ℕ
+call_answer s room =
     cond (not (eqb (length s) 20216)) 1
     (cond (ltb room 13960) 2
     (cond (ltb 8 (word s 0)) 3
     (cond (not (holds s)) 4 0)))
 
 -- the reply at the front, every byte after it kept; as it was where the answer is not 0
-unfoldable pub callLeaves : List ℕ → List ℕ → List ℕ
-callLeaves s out = cond (eqb (callAnswer s (length out)) 0) (all_bytes (replyWords (replyTo s)) ++ drop 13960 out) out
+unfoldable pub call_leaves : List ℕ → List ℕ → List ℕ
+call_leaves s out = cond (eqb (call_answer s (length out)) 0) (all_bytes (reply_words (reply_to s)) ++ drop 13960 out) out

@@ -27,47 +27,47 @@ unfoldable pub all_bytes : List ℕ → List ℕ
 all_bytes [] = []
 all_bytes (w ∷ ws) = word_bytes w ++ all_bytes ws
 
-abbrev pub flagWord : Bool → ℕ
-flagWord b = cond b 1 0
+abbrev pub flag_word : Bool → ℕ
+flag_word b = cond b 1 0
 
-abbrev pub setWords : IdSet → List ℕ
-setWords s = s.ids ++ (s.len ∷ [])
+abbrev pub set_words : IdSet → List ℕ
+set_words s = s.ids ++ (s.len ∷ [])
 
-abbrev pub listWords : IdList → List ℕ
-listWords l = l.ids ++ (l.len ∷ [])
+abbrev pub list_words : IdList → List ℕ
+list_words l = l.ids ++ (l.len ∷ [])
 
-unfoldable pub confWords : Configuration → List ℕ
-confWords c =
-    setWords c.incoming ++ (setWords c.outgoing ++ (setWords c.learners ++ (setWords c.learners_next ++ (flagWord c.auto_leave ∷ []))))
+unfoldable pub conf_words : Configuration → List ℕ
+conf_words c =
+    set_words c.incoming ++ (set_words c.outgoing ++ (set_words c.learners ++ (set_words c.learners_next ++ (flag_word c.auto_leave ∷ []))))
 
-abbrev pub stateWord : ProgressState → ℕ
-stateWord Probe = 0
-stateWord Replicate = 1
-stateWord Snapshot = 2
+abbrev pub state_word : ProgressState → ℕ
+state_word Probe = 0
+state_word Replicate = 1
+state_word Snapshot = 2
 
-unfoldable pub recordWords : Progress → List ℕ
-recordWords p =
-    p.matched ∷ p.next_idx ∷ stateWord p.state ∷ flagWord p.paused ∷ p.pending_snapshot ∷ p.pending_request_snapshot ∷ flagWord p.recent_active
+unfoldable pub record_words : Progress → List ℕ
+record_words p =
+    p.matched ∷ p.next_idx ∷ state_word p.state ∷ flag_word p.paused ∷ p.pending_snapshot ∷ p.pending_request_snapshot ∷ flag_word p.recent_active
     ∷ p.max_inflight ∷ p.commit_group_id ∷ p.committed_index ∷ []
 
-unfoldable pub recordsWords : List Progress → List ℕ
-recordsWords [] = []
-recordsWords (p ∷ ps) = recordWords p ++ recordsWords ps
+unfoldable pub records_words : List Progress → List ℕ
+records_words [] = []
+records_words (p ∷ ps) = record_words p ++ records_words ps
 
-unfoldable pub stateWords : Tracker → List ℕ
-stateWords t = confWords t.conf ++ (setWords t.ids ++ (recordsWords t.records ++ (t.max_inflight ∷ [])))
+unfoldable pub state_words : Tracker → List ℕ
+state_words t = conf_words t.conf ++ (set_words t.ids ++ (records_words t.records ++ (t.max_inflight ∷ [])))
 
-abbrev pub kindWord : MapChangeType → ℕ
-kindWord Add = 0
-kindWord Remove = 1
+abbrev pub kind_word : MapChangeType → ℕ
+kind_word Add = 0
+kind_word Remove = 1
 
-unfoldable pub entriesWords : List MapChange → List ℕ
-entriesWords [] = []
-entriesWords (e ∷ es) = e.id ∷ kindWord e.kind ∷ entriesWords es
+unfoldable pub entries_words : List MapChange → List ℕ
+entries_words [] = []
+entries_words (e ∷ es) = e.id ∷ kind_word e.kind ∷ entries_words es
 
-unfoldable pub logWords : ChangeLog → List ℕ
-logWords l = entriesWords l.entries ++ (l.count ∷ [])
+unfoldable pub log_words : ChangeLog → List ℕ
+log_words l = entries_words l.entries ++ (l.count ∷ [])
 
-unfoldable pub confStateWords : ConfState → List ℕ
-confStateWords c =
-    listWords c.voters ++ (listWords c.learners ++ (listWords c.voters_outgoing ++ (listWords c.learners_next ++ (flagWord c.auto_leave ∷ []))))
+unfoldable pub conf_state_words : ConfState → List ℕ
+conf_state_words c =
+    list_words c.voters ++ (list_words c.learners ++ (list_words c.voters_outgoing ++ (list_words c.learners_next ++ (flag_word c.auto_leave ∷ []))))

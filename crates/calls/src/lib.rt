@@ -2,10 +2,10 @@
 // This is how another language embeds the library, and how it is compared with the Rust.
 ghost use Rattle.std.specs.Prelude.{◌≡◌, min, length};
 ghost use Rattle.tracker.specs.ConfStates.{written_of};
-ghost use Rattle.confstate.specs.Entries.{readAnswer, readLeaves, writeAnswer, writeLeaves};
-ghost use Rattle.comparison.specs.Compare.{compareAnswer, compareLeaves};
-ghost use Rattle.calls.specs.Call.{fromVerdict, fromAnswer, fromOutcome, fromWritten, reply as replyOf, noLog, noLists, askIn, restoredIn, replyTo, callAnswer, callLeaves};
-ghost use Rattle.calls.specs.Unplugs.{unplugAnswer, unplugLeaves};
+ghost use Rattle.confstate.specs.Entries.{read_answer, read_leaves, write_answer, write_leaves};
+ghost use Rattle.comparison.specs.Compare.{compare_answer, compare_leaves};
+ghost use Rattle.calls.specs.Call.{from_verdict, from_answer, from_outcome, from_written, reply as replyOf, no_log, no_lists, ask_in, restored_in, reply_to, call_answer, call_leaves};
+ghost use Rattle.calls.specs.Unplugs.{unplug_answer, unplug_leaves};
 
 use crate::read::ChangeList;
 use changer::Answer;
@@ -31,7 +31,7 @@ pub struct Reply {
 // unknown call: 3; a word that no field can hold: 4; the reply is then as it was.
 #[unsafe(no_mangle)]
 pub extern "C" fn dimecandle_call(request: &[u8], reply: &mut [u8]) -> u64
-    ensures { (result ≡ callAnswer request.now (length reply.old)) × (reply.new ≡ callLeaves request.now reply.old) }
+    ensures { (result ≡ call_answer request.now (length reply.old)) × (reply.new ≡ call_leaves request.now reply.old) }
 {
     if request.len() != 20216 {
         return 1;
@@ -53,7 +53,7 @@ pub extern "C" fn dimecandle_call(request: &[u8], reply: &mut [u8]) -> u64
 // not 967 words: 1; a verdict of less than two: 2; a word that no field can hold: 4; the verdict is then as it was.
 #[unsafe(no_mangle)]
 pub extern "C" fn dimecandle_unplug(state: &[u64], id: u64, verdict: &mut [u64]) -> u64
-    ensures { (result ≡ unplugAnswer state.now (length verdict.old)) × (verdict.new ≡ unplugLeaves state.now id verdict.old) }
+    ensures { (result ≡ unplug_answer state.now (length verdict.old)) × (verdict.new ≡ unplug_leaves state.now id verdict.old) }
 {
     if state.len() != 967 {
         return 1;
@@ -74,7 +74,7 @@ pub extern "C" fn dimecandle_unplug(state: &[u64], id: u64, verdict: &mut [u64])
 // Less than 261 words: 100, and they are as they were.
 #[unsafe(no_mangle)]
 pub extern "C" fn dimecandle_read_conf_state(bytes: &[u8], conf_state: &mut [u64]) -> u64
-    ensures { (result ≡ readAnswer bytes.now (length conf_state.old)) × (conf_state.new ≡ readLeaves bytes.now conf_state.old) }
+    ensures { (result ≡ read_answer bytes.now (length conf_state.old)) × (conf_state.new ≡ read_leaves bytes.now conf_state.old) }
 {
     confstate::read::read(bytes, conf_state)
 }
@@ -83,7 +83,7 @@ pub extern "C" fn dimecandle_read_conf_state(bytes: &[u8], conf_state: &mut [u64
 // 31, and the bytes are as they were.
 #[unsafe(no_mangle)]
 pub extern "C" fn dimecandle_write_conf_state(conf_state: &[u64], bytes: &mut [u8]) -> u64
-    ensures { (result ≡ writeAnswer conf_state.now (length bytes.old)) × (bytes.new ≡ writeLeaves conf_state.now bytes.old) }
+    ensures { (result ≡ write_answer conf_state.now (length bytes.old)) × (bytes.new ≡ write_leaves conf_state.now bytes.old) }
 {
     confstate::write::write(conf_state, bytes)
 }
@@ -92,13 +92,13 @@ pub extern "C" fn dimecandle_write_conf_state(conf_state: &[u64], bytes: &mut [u
 // and the refusal, and `out` is as it was: 32 for a slice over 32 KiB; 28, 29 or 30 of the first, then of the second; 100 for lines longer than `out`.
 #[unsafe(no_mangle)]
 pub extern "C" fn dimecandle_compare(first: &[u8], second: &[u8], out: &mut [u8]) -> u64
-    ensures { (result ≡ compareAnswer first.now second.now (length out.old)) × (out.new ≡ compareLeaves first.now second.now out.old) }
+    ensures { (result ≡ compare_answer first.now second.now (length out.old)) × (out.new ≡ compare_leaves first.now second.now out.old) }
 {
     comparison::compare(first, second, out)
 }
 
 fn reply_to(s: &[u8]) -> Reply
-    ensures { result ≡ replyTo s.now }
+    ensures { result ≡ reply_to s.now }
 {
     let call = read::word(s, 0);
     let t = read::state(s);
@@ -122,7 +122,7 @@ fn reply_to(s: &[u8]) -> Reply
 
 // 2 simple, 3 enter_joint, 4 leave_joint.
 fn ask(s: &[u8], call: u64, t: Tracker) -> Answer
-    ensures { result ≡ askIn s.now call t }
+    ensures { result ≡ ask_in s.now call t }
 {
     if call == 4 {
         return changer::leave_joint(t);
@@ -140,7 +140,7 @@ fn ask(s: &[u8], call: u64, t: Tracker) -> Answer
 
 // 7 restore, 8 restore_step_by_step. One call of the latter serves both, and the state given is read again rather than kept: that saves stack.
 fn restored(s: &[u8], call: u64) -> Outcome
-    ensures { result ≡ restoredIn s.now call }
+    ensures { result ≡ restored_in s.now call }
 {
     let o = restore::restore_step_by_step(read::state(s), read::conf_state(s), read::word(s, 969));
     if call == 7 {
@@ -160,20 +160,20 @@ fn least(n: usize) -> usize
 }
 
 fn from_verdict(t: Tracker, v: Verdict) -> Reply
-    ensures { result ≡ fromVerdict t v }
+    ensures { result ≡ from_verdict t v }
 {
     reply_of(v.number, v.id, false, t)
 }
 
 fn from_yes(t: Tracker, yes: bool) -> Reply
-    ensures { result ≡ replyOf 0 0 yes t noLog noLists 0 }
+    ensures { result ≡ replyOf 0 0 yes t no_log no_lists 0 }
 {
     reply_of(0, 0, yes, t)
 }
 
 // Of the answers that give neither log nor lists.
 fn reply_of(number: u64, id: u64, yes: bool, t: Tracker) -> Reply
-    ensures { result ≡ replyOf number id yes t noLog noLists 0 }
+    ensures { result ≡ replyOf number id yes t no_log no_lists 0 }
 {
     let log = ChangeLog::new();
     let conf_state = ConfState::new();
@@ -190,7 +190,7 @@ fn reply_of(number: u64, id: u64, yes: bool, t: Tracker) -> Reply
 
 // The state given, with the answered configuration.
 fn from_answer(t: Tracker, a: Answer) -> Reply
-    ensures { result ≡ fromAnswer t a }
+    ensures { result ≡ from_answer t a }
 {
     let mut tracker = t;
     let conf = a.conf;
@@ -209,14 +209,14 @@ fn from_answer(t: Tracker, a: Answer) -> Reply
 }
 
 fn from_outcome(o: Outcome) -> Reply
-    ensures { result ≡ fromOutcome o }
+    ensures { result ≡ from_outcome o }
 {
     let tracker = o.tracker;
     reply_of(o.number, o.id, false, tracker)
 }
 
 fn from_written(t: Tracker) -> Reply
-    ensures { result ≡ fromWritten t (written_of t) }
+    ensures { result ≡ from_written t (written_of t) }
 {
     let w = t.to_conf_state();
     let log = ChangeLog::new();

@@ -1,7 +1,7 @@
 // A request, read off its bytes: docs/EMBEDDING.md. Places are counted in words.
 ghost use Rattle.std.specs.Prelude.{◌≡◌, ◌+◌, ◌*◌, ◌≤◌, get_or};
-ghost use Rattle.unplug.specs.Words.{stateNamed};
-ghost use Rattle.calls.specs.Layout.{number, word as word_at, words as wordsAt, kindNamed, set_at, listAt, confAt, recordAt, recordsAt, stateAt, entries_at, log_at, confStateAt, kindsAt, changeListAt, within, stateHolds, listHolds, holds as holdsIn};
+ghost use Rattle.unplug.specs.Words.{state_named};
+ghost use Rattle.calls.specs.Layout.{number, word as word_at, words as wordsAt, kind_named, set_at, list_at, conf_at, record_at, records_at, state_at, entries_at, log_at, conf_state_at, kinds_at, change_list_at, within, state_holds, list_holds, holds as holdsIn};
 
 use idset::IdSet;
 use progress::{Progress, ProgressState};
@@ -55,7 +55,7 @@ pub fn holds(s: &[u8]) -> bool
 
 // The STATE of a request.
 pub fn state(s: &[u8]) -> Tracker
-    ensures { result ≡ stateAt s.now 1 }
+    ensures { result ≡ state_at s.now 1 }
 {
     let conf = conf_at(s, 1);
     let ids = set_at(s, 262);
@@ -71,7 +71,7 @@ pub fn state(s: &[u8]) -> Tracker
 
 // The LIST of a request.
 pub fn change_list(s: &[u8]) -> ChangeList
-    ensures { result ≡ changeListAt s.now 970 }
+    ensures { result ≡ change_list_at s.now 970 }
 {
     let ids = ids_at(s, 970);
     let kinds = kinds_at(s, 1231);
@@ -85,7 +85,7 @@ pub fn change_list(s: &[u8]) -> ChangeList
 
 // The CONF of a request.
 pub fn conf(s: &[u8]) -> Configuration
-    ensures { result ≡ confAt s.now 1492 }
+    ensures { result ≡ conf_at s.now 1492 }
 {
     conf_at(s, 1492)
 }
@@ -103,7 +103,7 @@ pub fn log(s: &[u8]) -> ChangeLog
 
 // The CONFSTATE of a request.
 pub fn conf_state(s: &[u8]) -> ConfState
-    ensures { result ≡ confStateAt s.now 2266 }
+    ensures { result ≡ conf_state_at s.now 2266 }
 {
     let voters = list_at(s, 2266);
     let learners = list_at(s, 2331);
@@ -164,7 +164,7 @@ fn at_most(s: &[u8], k: usize, n: usize, step: usize, most: u64) -> bool
 // The flag of the CONF, and of each RECORD its state and its two flags.
 fn state_holds(s: &[u8], k: usize) -> bool
     requires { k ≤ 2048 }
-    ensures { result ≡ stateHolds s.now k }
+    ensures { result ≡ state_holds s.now k }
 {
     if !at_most(s, k + 260, 1, 1, 1) {
         return false;
@@ -182,7 +182,7 @@ fn state_holds(s: &[u8], k: usize) -> bool
 // Both counts, and each kind.
 fn list_holds(s: &[u8], k: usize) -> bool
     requires { k ≤ 2048 }
-    ensures { result ≡ listHolds s.now k }
+    ensures { result ≡ list_holds s.now k }
 {
     if !at_most(s, k + 260, 1, 1, 260) {
         return false;
@@ -196,7 +196,7 @@ fn list_holds(s: &[u8], k: usize) -> bool
 // A CONF.
 fn conf_at(s: &[u8], k: usize) -> Configuration
     requires { k ≤ 4096 }
-    ensures { result ≡ confAt s.now k }
+    ensures { result ≡ conf_at s.now k }
 {
     let incoming = set_at(s, k);
     let outgoing = set_at(s, k + 65);
@@ -226,7 +226,7 @@ fn set_at(s: &[u8], k: usize) -> IdSet
 // A SET as a list.
 fn list_at(s: &[u8], k: usize) -> IdList
     requires { k ≤ 8192 }
-    ensures { result ≡ listAt s.now k }
+    ensures { result ≡ list_at s.now k }
 {
     let ids = words_at(s, k);
     IdList {
@@ -266,7 +266,7 @@ fn ids_at(s: &[u8], k: usize) -> [u64; ChangeList::CAPACITY]
 // The 260 kinds of a LIST; one that is over 255 was refused before, and is cut.
 fn kinds_at(s: &[u8], k: usize) -> [u8; ChangeList::CAPACITY]
     requires { k ≤ 8192 }
-    ensures { result ≡ kindsAt 260 s.now k }
+    ensures { result ≡ kinds_at 260 s.now k }
 {
     let mut out = [0u8; ChangeList::CAPACITY];
     let mut i = 0;
@@ -280,7 +280,7 @@ fn kinds_at(s: &[u8], k: usize) -> [u8; ChangeList::CAPACITY]
 // The 64 RECORDs.
 fn records_at(s: &[u8], k: usize) -> [Progress; Tracker::CAPACITY]
     requires { k ≤ 4096 }
-    ensures { result ≡ recordsAt 64 s.now k }
+    ensures { result ≡ records_at 64 s.now k }
 {
     let unused = Progress::unused();
     let mut out = [unused; Tracker::CAPACITY];
@@ -295,7 +295,7 @@ fn records_at(s: &[u8], k: usize) -> [Progress; Tracker::CAPACITY]
 // A RECORD.
 fn record_at(s: &[u8], k: usize) -> Progress
     requires { k ≤ 8192 }
-    ensures { result ≡ recordAt s.now k }
+    ensures { result ≡ record_at s.now k }
 {
     let state = state_named(word(s, k + 2));
     Progress {
@@ -314,7 +314,7 @@ fn record_at(s: &[u8], k: usize) -> Progress
 
 // 0 Probe, 1 Replicate, 2 Snapshot.
 fn state_named(w: u64) -> ProgressState
-    ensures { result ≡ stateNamed w }
+    ensures { result ≡ state_named w }
 {
     if w == 0 {
         return ProgressState::Probe;
@@ -349,7 +349,7 @@ fn entries_at(s: &[u8], k: usize) -> [MapChange; ChangeLog::CAPACITY]
 
 // 0 Add, 1 Remove.
 fn kind_named(w: u64) -> MapChangeType
-    ensures { result ≡ kindNamed w }
+    ensures { result ≡ kind_named w }
 {
     if w == 0 {
         return MapChangeType::Add;

@@ -1,8 +1,8 @@
 // A reply, written as bytes: docs/EMBEDDING.md.
 ghost use Rattle.std.specs.Prelude.{◌≡◌, [], ◌∷◌};
 ghost use Rattle.text.specs.Put.{Put};
-ghost use Rattle.calls.specs.Reply.{word_bytes, all_bytes, flagWord, setWords, listWords, confWords, stateWord, recordWords, recordsWords, stateWords, kindWord, entriesWords, logWords, confStateWords};
-ghost use Rattle.calls.specs.Call.{replyWords};
+ghost use Rattle.calls.specs.Reply.{word_bytes, all_bytes, flag_word, set_words, list_words, conf_words, state_word, record_words, records_words, state_words, kind_word, entries_words, log_words, conf_state_words};
+ghost use Rattle.calls.specs.Call.{reply_words};
 
 use crate::Reply;
 use idset::IdSet;
@@ -11,7 +11,7 @@ use tracker::{ChangeLog, ConfState, Configuration, IdList, MapChange, MapChangeT
 
 // The whole reply from the front of `out` on, as far as it goes.
 pub fn put_reply(out: &mut [u8], r: Reply) -> usize
-    ensures { Put out.old 0 (all_bytes (replyWords r)) out.new result }
+    ensures { Put out.old 0 (all_bytes (reply_words r)) out.new result }
 {
     let a = put_word(out, 0, r.number);
     let b = put_word(out, a, r.id);
@@ -38,7 +38,7 @@ fn put_word(out: &mut [u8], at: usize, n: u64) -> usize
 }
 
 fn put_flag(out: &mut [u8], at: usize, b: bool) -> usize
-    ensures { Put out.old at (word_bytes (flagWord b)) out.new result }
+    ensures { Put out.old at (word_bytes (flag_word b)) out.new result }
 {
     if b {
         return put_word(out, at, 1);
@@ -60,21 +60,21 @@ fn put_words(out: &mut [u8], at: usize, ws: &[u64]) -> usize
 }
 
 fn put_set(out: &mut [u8], at: usize, set: IdSet) -> usize
-    ensures { Put out.old at (all_bytes (setWords set)) out.new result }
+    ensures { Put out.old at (all_bytes (set_words set)) out.new result }
 {
     let p = put_words(out, at, &set.ids);
     put_word(out, p, set.len as u64)
 }
 
 fn put_list(out: &mut [u8], at: usize, list: IdList) -> usize
-    ensures { Put out.old at (all_bytes (listWords list)) out.new result }
+    ensures { Put out.old at (all_bytes (list_words list)) out.new result }
 {
     let p = put_words(out, at, &list.ids);
     put_word(out, p, list.len as u64)
 }
 
 fn put_conf(out: &mut [u8], at: usize, conf: Configuration) -> usize
-    ensures { Put out.old at (all_bytes (confWords conf)) out.new result }
+    ensures { Put out.old at (all_bytes (conf_words conf)) out.new result }
 {
     let a = put_set(out, at, conf.incoming);
     let b = put_set(out, a, conf.outgoing);
@@ -84,7 +84,7 @@ fn put_conf(out: &mut [u8], at: usize, conf: Configuration) -> usize
 }
 
 fn put_state(out: &mut [u8], at: usize, t: Tracker) -> usize
-    ensures { Put out.old at (all_bytes (stateWords t)) out.new result }
+    ensures { Put out.old at (all_bytes (state_words t)) out.new result }
 {
     let a = put_conf(out, at, t.conf);
     let b = put_set(out, a, t.ids);
@@ -94,7 +94,7 @@ fn put_state(out: &mut [u8], at: usize, t: Tracker) -> usize
 }
 
 fn put_records(out: &mut [u8], at: usize, records: [Progress; Tracker::CAPACITY]) -> usize
-    ensures { Put out.old at (all_bytes (recordsWords records)) out.new result }
+    ensures { Put out.old at (all_bytes (records_words records)) out.new result }
 {
     let mut p = at;
     let mut i = 0;
@@ -107,7 +107,7 @@ fn put_records(out: &mut [u8], at: usize, records: [Progress; Tracker::CAPACITY]
 }
 
 fn put_record(out: &mut [u8], at: usize, p: Progress) -> usize
-    ensures { Put out.old at (all_bytes (recordWords p)) out.new result }
+    ensures { Put out.old at (all_bytes (record_words p)) out.new result }
 {
     let state = p.state;
     let words = [
@@ -126,14 +126,14 @@ fn put_record(out: &mut [u8], at: usize, p: Progress) -> usize
 }
 
 fn flag_word(b: bool) -> u64
-    ensures { result ≡ flagWord b }
+    ensures { result ≡ flag_word b }
 {
     if b { 1 } else { 0 }
 }
 
 // 0 Probe, 1 Replicate, 2 Snapshot.
 fn state_word(s: ProgressState) -> u64
-    ensures { result ≡ stateWord s }
+    ensures { result ≡ state_word s }
 {
     match s {
         ProgressState::Probe => 0,
@@ -143,7 +143,7 @@ fn state_word(s: ProgressState) -> u64
 }
 
 fn put_log(out: &mut [u8], at: usize, log: ChangeLog) -> usize
-    ensures { Put out.old at (all_bytes (logWords log)) out.new result }
+    ensures { Put out.old at (all_bytes (log_words log)) out.new result }
 {
     let entries = log.entries;
     let p = put_entries(out, at, entries);
@@ -151,7 +151,7 @@ fn put_log(out: &mut [u8], at: usize, log: ChangeLog) -> usize
 }
 
 fn put_entries(out: &mut [u8], at: usize, entries: [MapChange; ChangeLog::CAPACITY]) -> usize
-    ensures { Put out.old at (all_bytes (entriesWords entries)) out.new result }
+    ensures { Put out.old at (all_bytes (entries_words entries)) out.new result }
 {
     let mut p = at;
     let mut i = 0;
@@ -164,7 +164,7 @@ fn put_entries(out: &mut [u8], at: usize, entries: [MapChange; ChangeLog::CAPACI
 }
 
 fn put_entry(out: &mut [u8], at: usize, e: MapChange) -> usize
-    ensures { Put out.old at (all_bytes (entriesWords (e ∷ []))) out.new result }
+    ensures { Put out.old at (all_bytes (entries_words (e ∷ []))) out.new result }
 {
     let kind = e.kind;
     let p = put_word(out, at, e.id);
@@ -173,7 +173,7 @@ fn put_entry(out: &mut [u8], at: usize, e: MapChange) -> usize
 
 // 0 Add, 1 Remove.
 fn kind_word(k: MapChangeType) -> u64
-    ensures { result ≡ kindWord k }
+    ensures { result ≡ kind_word k }
 {
     match k {
         MapChangeType::Add => 0,
@@ -182,7 +182,7 @@ fn kind_word(k: MapChangeType) -> u64
 }
 
 fn put_conf_state(out: &mut [u8], at: usize, cs: ConfState) -> usize
-    ensures { Put out.old at (all_bytes (confStateWords cs)) out.new result }
+    ensures { Put out.old at (all_bytes (conf_state_words cs)) out.new result }
 {
     let a = put_list(out, at, cs.voters);
     let b = put_list(out, a, cs.learners);

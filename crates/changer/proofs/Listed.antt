@@ -12,25 +12,25 @@ use lib.Seq.{take_all}
 use Rattle.rules.specs.Ids.{is_empty}
 use Rattle.idset.specs.Set.{held}
 use Rattle.idset.specs.declared.IdSet.{IdSet}
-use Rattle.tracker.specs.Bridge.{changeLogOf}
+use Rattle.tracker.specs.Bridge.{change_log_of}
 use Rattle.tracker.specs.declared.ChangeLog.{ChangeLog}
 use Rattle.tracker.specs.declared.Configuration.{Configuration}
-use Rattle.changes.specs.Change.{changesIn, workIn}
+use Rattle.changes.specs.Change.{changes_in, work_in}
 use Rattle.changes.specs.declared.Work.{Work}
-use Rattle.changer.specs.Stages.{acceptedIn, afterList, carriedIn, refusedIn}
+use Rattle.changer.specs.Stages.{accepted_in, after_list, carried_in, refused_in}
 use Rattle.changer.specs.declared.Answer.{Answer}
 
 -- ** The tracked ids
 
 module _ (s : IdSet) (sized : length s.ids ≡ 64) {n : ℕ} (e : n ≡ min s.len 64) where
-  pub base-fits : n ≤ length s.ids
-  base-fits = omega arith
+  pub base_fits : n ≤ length s.ids
+  base_fits = omega arith
 
-  pub base-counts : n ≡ length (take n s.ids)
-  base-counts = omega (arith, length-take n s.ids)
+  pub base_counts : n ≡ length (take n s.ids)
+  base_counts = omega (arith, length-take n s.ids)
 
-  base-held : take n s.ids ≡ held s
-  base-held = go (leb s.len 64) refl
+  base_held : take n s.ids ≡ held s
+  base_held = go (leb s.len 64) refl
     where
       go : (b : Bool) → leb s.len 64 ≡ b → take n s.ids ≡ held s
       go true k =
@@ -43,16 +43,16 @@ module _ (s : IdSet) (sized : length s.ids ≡ 64) {n : ℕ} (e : n ≡ min s.le
 
   -- ** What the list came to
 
-  module _ (c : Configuration) (xs ks : List ℕ) {log : ChangeLog} (g : log ≡ changeLogOf []) {w : Work} (f : w ≡ changesIn (take n s.ids) xs ks (workIn c log n 0)) where
-    carried : carriedIn s c xs ks ≡ afterList c w
-    carried = rw (f, base-held, g, e)
+  module _ (c : Configuration) (xs ks : List ℕ) {log : ChangeLog} (g : log ≡ change_log_of []) {w : Work} (f : w ≡ changes_in (take n s.ids) xs ks (work_in c log n 0)) where
+    carried : carried_in s c xs ks ≡ after_list c w
+    carried = rw (f, base_held, g, e)
 
-    pub carried-full : w.full ≡ true → {r : Answer} → r ≡ refusedIn c 16 w.id → r ≡ carriedIn s c xs ks
+    pub carried-full : w.full ≡ true → {r : Answer} → r ≡ refused_in c 16 w.id → r ≡ carried_in s c xs ks
     carried-full h k = k ∙ sym (carried ∙ rw h)
 
     module _ (h : w.full ≡ false) {b : Bool} (q : b ≡ is_empty (held w.conf.incoming)) where
-      pub carried_none : b ≡ true → {r : Answer} → r ≡ refusedIn c 17 0 → r ≡ carriedIn s c xs ks
+      pub carried_none : b ≡ true → {r : Answer} → r ≡ refused_in c 17 0 → r ≡ carried_in s c xs ks
       carried_none t k = k ∙ sym (carried ∙ rw (h, ← q, t))
 
-      pub carried-well : b ≡ false → {r : Answer} → r ≡ acceptedIn w.conf w.log w.idle → r ≡ carriedIn s c xs ks
-      carried-well t k = k ∙ sym (carried ∙ rw (h, ← q, t))
+      pub carried_well : b ≡ false → {r : Answer} → r ≡ accepted_in w.conf w.log w.idle → r ≡ carried_in s c xs ks
+      carried_well t k = k ∙ sym (carried ∙ rw (h, ← q, t))

@@ -7,28 +7,28 @@ use Rattle.rules.specs.Ids.{is_empty, memb}
 use Rattle.rules.specs.State.{State, formed, ids}
 use Rattle.rules.specs.Answers as rules
 use Rattle.rules.specs.Answers.{Verdict, ok, refuse, ◌▸◌, ◌⇒◌}
-use Rattle.rules.specs.Check.{check, isTracked, joint}
-use Rattle.rules.specs.Calls.{enterJoint, enterOf, entering, leaveJoint, leaveOf, list_of, readable, simple, simpleOf, start}
-use Rattle.rules.specs.Idle.{enterIdles, idles, simpleIdles}
+use Rattle.rules.specs.Check.{check, is_tracked, joint}
+use Rattle.rules.specs.Calls.{enter_joint, enter_of, entering, leave_joint, leave_of, list_of, readable, simple, simple_of, start}
+use Rattle.rules.specs.Idle.{enter_idles, idles, simple_idles}
 use Rattle.rules.proofs.Applied.{single-checked}
-use Rattle.rules.proofs.Check.{refuse-ok, then-left, then-right}
+use Rattle.rules.proofs.Check.{refuse-ok, then_left, then_right}
 use Rattle.rules.proofs.Formed.{Whole, whole_of}
 use Rattle.rules.proofs.Steps.{Checked}
-use Rattle.idset.specs.Set.{held, setOf}
-use Rattle.idset.proofs.Bridge.{held-rises}
-use Rattle.tracker.specs.Bridge.{confOf, configurationOf, state_of}
-use Rattle.tracker.specs.Form.{trackerWellFormed}
+use Rattle.idset.specs.Set.{held, set_of}
+use Rattle.idset.proofs.Bridge.{held_rises}
+use Rattle.tracker.specs.Bridge.{conf_of, configuration_of, state_of}
+use Rattle.tracker.specs.Form.{tracker_well_formed}
 use Rattle.tracker.specs.declared.Tracker.{Tracker}
-use Rattle.tracker.proofs.Bridge.{conf-formed, roster-set, rostered, tracked-ids, tracker-formed, tracker-parts, unit-conf}
-use Rattle.invariants.proofs.Checks.{walk-checks}
-use Rattle.invariants.proofs.Faults.{Numbered, numbered-refuse, numbered-then}
+use Rattle.tracker.proofs.Bridge.{conf-formed, roster_set, rostered, tracked-ids, tracker_formed, tracker_parts, unit_conf}
+use Rattle.invariants.proofs.Checks.{walk_checks}
+use Rattle.invariants.proofs.Faults.{Numbered, numbered-refuse, numbered_then}
 use Rattle.invariants.proofs.Parts.{check-numbered}
-use Rattle.changer.specs.Calls.{enterAnswer, ifFormed, leaveAnswer, simpleAnswer}
-use Rattle.changer.specs.Before.{ownCheck}
-use Rattle.changer.specs.Stages.{enterIn, leaveIn, simpleIn}
-use Rattle.changer.proofs.Verdicts.{count_same, read-few, readable-numbered, tested-same, tests-first, then-given}
-use Rattle.changer.proofs.Changed.{enter-on, simple-on}
-use Rattle.changer.proofs.Left.{leave-on}
+use Rattle.changer.specs.Calls.{enter_answer, if_formed, leave_answer, simple_answer}
+use Rattle.changer.specs.Before.{own_check}
+use Rattle.changer.specs.Stages.{enter_in, leave_in, simple_in}
+use Rattle.changer.proofs.Verdicts.{count_same, read-few, readable-numbered, tested_same, tests_first, then_given}
+use Rattle.changer.proofs.Changed.{enter_on, simple_on_lem}
+use Rattle.changer.proofs.Left.{leave_on}
 
 module _ (t : Tracker) where
   abbrev s : State
@@ -36,28 +36,28 @@ module _ (t : Tracker) where
 
   -- the check of the state, as the rules say it
   abbrev checks : Verdict
-  checks = check (isTracked s) s.conf
+  checks = check (is_tracked s) s.conf
 
-  pub own-numbered : Numbered (ownCheck t)
-  own-numbered = check-numbered (held t.ids) (confOf t.conf)
+  pub own_numbered : Numbered (own_check t)
+  own_numbered = check-numbered (held t.ids) (conf_of t.conf)
 
-  module _ (w : trackerWellFormed t ≡ true) where
-    pub own-check : ownCheck t ≡ checks
-    own-check =
-        walk-checks (held t.ids) s.conf (held-rises t.ids (tracker-parts t w).ids) (conf-formed t.conf (tracker-parts t w).conf)
+  module _ (w : tracker_well_formed t ≡ true) where
+    pub own_check_lem : own_check t ≡ checks
+    own_check_lem =
+        walk_checks (held t.ids) s.conf (held_rises t.ids (tracker_parts t w).ids) (conf-formed t.conf (tracker_parts t w).conf)
         ∙ ap (λ (l : List ℕ). check (λ x. memb x l) s.conf) (sym (tracked-ids t w))
 
-    pub same-tracked : t.ids ≡ setOf (ids s.peers)
-    same-tracked = sym (roster-set (rostered t w))
+    pub same-tracked : t.ids ≡ set_of (ids s.peers)
+    same-tracked = sym (roster_set (rostered t w))
 
-    pub same-conf : t.conf ≡ configurationOf s.conf
-    same-conf = sym (unit-conf t.conf (tracker-parts t w).conf)
+    pub same-conf : t.conf ≡ configuration_of s.conf
+    same-conf = sym (unit_conf t.conf (tracker_parts t w).conf)
 
     whole : Whole s
-    whole = whole_of s (tracker-formed t w)
+    whole = whole_of s (tracker_formed t w)
 
     pub checked : checks ≡ ok → joint s.conf ≡ false → Checked s
-    checked = single-checked s (tracker-formed t w)
+    checked = single-checked s (tracker_formed t w)
 
   -- 4 or 6, and 15
   abbrev single : ℕ → Verdict
@@ -66,44 +66,44 @@ module _ (t : Tracker) where
   abbrev voters : Verdict
   voters = refuse (is_empty s.conf.incoming) 15 0
 
-  pub simple-same : (ids kinds : List ℕ) → simpleIn t ids kinds ≡ simpleAnswer t ids kinds
-  unfolding simpleIn simpleAnswer simpleIdles simple simpleOf
+  pub simple-same : (ids kinds : List ℕ) → simple_in t ids kinds ≡ simple_answer t ids kinds
+  unfolding simple_in simple_answer simple_idles simple simple_of
   simple-same xs ks =
       let reads : Verdict = readable xs ks in
-      tested-same t (idles (ids s.peers) (list_of xs ks) (start s.conf)) (reads ▸ single 6 ▸ ownCheck t) (reads ▸ single 6 ▸ checks) _ _
-      (numbered-then reads (single 6 ▸ ownCheck t) (readable-numbered xs ks) (numbered-then (single 6) (ownCheck t) (numbered-refuse (joint s.conf) 6 0 refl) own-numbered))
-      (λ w. ap (λ (v : Verdict). reads ▸ single 6 ▸ v) (own-check w))
+      tested_same t (idles (ids s.peers) (list_of xs ks) (start s.conf)) (reads ▸ single 6 ▸ own_check t) (reads ▸ single 6 ▸ checks) _ _
+      (numbered_then reads (single 6 ▸ own_check t) (readable-numbered xs ks) (numbered_then (single 6) (own_check t) (numbered-refuse (joint s.conf) 6 0 refl) own_numbered))
+      (λ w. ap (λ (v : Verdict). reads ▸ single 6 ▸ v) (own_check_lem w))
       (λ w p.
-      let q : single 6 ▸ checks ≡ ok = then-right reads (single 6 ▸ checks) p in
-      let j : joint s.conf ≡ false = refuse-ok (joint s.conf) 6 0 (then-left (single 6) checks q) in
-      simple-on s (checked w (then-right (single 6) checks q) j) t.ids (same-tracked w) t.conf (same-conf w) xs ks (read-few xs ks (then-left reads (single 6 ▸ checks) p)) (whole w).sets)
-      ∙ ap (ifFormed t _) (tests-first (refuse (not (formed s)) 1 0) reads (single 6 ▸ checks) _)
+      let q : single 6 ▸ checks ≡ ok = then_right reads (single 6 ▸ checks) p in
+      let j : joint s.conf ≡ false = refuse-ok (joint s.conf) 6 0 (then_left (single 6) checks q) in
+      simple_on_lem s (checked w (then_right (single 6) checks q) j) t.ids (same-tracked w) t.conf (same-conf w) xs ks (read-few xs ks (then_left reads (single 6 ▸ checks) p)) (whole w).sets)
+      ∙ ap (if_formed t _) (tests_first (refuse (not (formed s)) 1 0) reads (single 6 ▸ checks) _)
       ∙ count_same t (idles (ids s.peers) (list_of xs ks) (start s.conf)) (simple s xs ks)
 
-  pub enter-same : (auto : Bool) (ids kinds : List ℕ) → enterIn t auto ids kinds ≡ enterAnswer t auto ids kinds
-  unfolding enterIn enterAnswer enterIdles enterJoint enterOf
+  pub enter-same : (auto : Bool) (ids kinds : List ℕ) → enter_in t auto ids kinds ≡ enter_answer t auto ids kinds
+  unfolding enter_in enter_answer enter_idles enter_joint enter_of
   enter-same auto xs ks =
       let reads : Verdict = readable xs ks in
-      tested-same t (idles (ids s.peers) (list_of xs ks) (start (entering s.conf))) (reads ▸ single 4 ▸ ownCheck t ▸ voters) (reads ▸ single 4 ▸ checks ▸ voters) _ _
-      (numbered-then reads (single 4 ▸ ownCheck t ▸ voters) (readable-numbered xs ks)
-      (numbered-then (single 4) (ownCheck t ▸ voters) (numbered-refuse (joint s.conf) 4 0 refl)
-      (numbered-then (ownCheck t) voters own-numbered (numbered-refuse (is_empty s.conf.incoming) 15 0 refl))))
-      (λ w. ap (λ (v : Verdict). reads ▸ single 4 ▸ v ▸ voters) (own-check w))
+      tested_same t (idles (ids s.peers) (list_of xs ks) (start (entering s.conf))) (reads ▸ single 4 ▸ own_check t ▸ voters) (reads ▸ single 4 ▸ checks ▸ voters) _ _
+      (numbered_then reads (single 4 ▸ own_check t ▸ voters) (readable-numbered xs ks)
+      (numbered_then (single 4) (own_check t ▸ voters) (numbered-refuse (joint s.conf) 4 0 refl)
+      (numbered_then (own_check t) voters own_numbered (numbered-refuse (is_empty s.conf.incoming) 15 0 refl))))
+      (λ w. ap (λ (v : Verdict). reads ▸ single 4 ▸ v ▸ voters) (own_check_lem w))
       (λ w p.
-      let q : single 4 ▸ checks ▸ voters ≡ ok = then-right reads (single 4 ▸ checks ▸ voters) p in
-      let k : checks ≡ ok = then-left checks voters (then-right (single 4) (checks ▸ voters) q) in
-      let j : joint s.conf ≡ false = refuse-ok (joint s.conf) 4 0 (then-left (single 4) (checks ▸ voters) q) in
-      enter-on s (checked w k j) t.ids (same-tracked w) t.conf (same-conf w) xs ks (read-few xs ks (then-left reads (single 4 ▸ checks ▸ voters) p)) j auto)
-      ∙ ap (ifFormed t _) (tests-first (refuse (not (formed s)) 1 0) reads (single 4 ▸ checks ▸ voters) _)
-      ∙ count_same t (idles (ids s.peers) (list_of xs ks) (start (entering s.conf))) (enterJoint s auto xs ks)
+      let q : single 4 ▸ checks ▸ voters ≡ ok = then_right reads (single 4 ▸ checks ▸ voters) p in
+      let k : checks ≡ ok = then_left checks voters (then_right (single 4) (checks ▸ voters) q) in
+      let j : joint s.conf ≡ false = refuse-ok (joint s.conf) 4 0 (then_left (single 4) (checks ▸ voters) q) in
+      enter_on s (checked w k j) t.ids (same-tracked w) t.conf (same-conf w) xs ks (read-few xs ks (then_left reads (single 4 ▸ checks ▸ voters) p)) j auto)
+      ∙ ap (if_formed t _) (tests_first (refuse (not (formed s)) 1 0) reads (single 4 ▸ checks ▸ voters) _)
+      ∙ count_same t (idles (ids s.peers) (list_of xs ks) (start (entering s.conf))) (enter_joint s auto xs ks)
 
-  pub leave_same : leaveIn t ≡ leaveAnswer t
-  unfolding leaveIn leaveAnswer leaveJoint leaveOf
+  pub leave_same : leave_in t ≡ leave_answer t
+  unfolding leave_in leave_answer leave_joint leave_of
   leave_same =
       let jointly : Verdict = refuse (not (joint s.conf)) 5 0 in
       let ill : Verdict = refuse (not (formed s)) 1 0 in
-      tested-same t 0 (jointly ▸ ownCheck t) (jointly ▸ checks) _ _
-      (numbered-then jointly (ownCheck t) (numbered-refuse (not (joint s.conf)) 5 0 refl) own-numbered)
-      (λ w. ap (λ (v : Verdict). jointly ▸ v) (own-check w))
-      (λ w p. leave-on s (whole w) (then-right jointly checks p) t.ids (same-tracked w) t.conf (same-conf w))
-      ∙ ap (ifFormed t 0) (then-given ill (jointly ▸ checks) _ ∙ ap (λ (a : rules.Answer). ill ⇒ a) (sym (tests-first jointly checks _ _)))
+      tested_same t 0 (jointly ▸ own_check t) (jointly ▸ checks) _ _
+      (numbered_then jointly (own_check t) (numbered-refuse (not (joint s.conf)) 5 0 refl) own_numbered)
+      (λ w. ap (λ (v : Verdict). jointly ▸ v) (own_check_lem w))
+      (λ w p. leave_on s (whole w) (then_right jointly checks p) t.ids (same-tracked w) t.conf (same-conf w))
+      ∙ ap (if_formed t 0) (then_given ill (jointly ▸ checks) _ ∙ ap (λ (a : rules.Answer). ill ⇒ a) (sym (tests_first jointly checks _ _)))

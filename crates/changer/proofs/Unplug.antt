@@ -9,22 +9,22 @@ use Rattle.rules.specs.Answers.{accepted, fault, refused, refuse, ◌▸◌}
 use Rattle.rules.specs.Check.{joint}
 use Rattle.rules.specs.State.{State}
 use Rattle.rules.specs.Calls.{simple}
-use Rattle.rules.specs.Idle.{simpleIdles}
-use Rattle.rules.specs.Unplug.{straight, unplug, verdictIn, voterLeft}
+use Rattle.rules.specs.Idle.{simple_idles}
+use Rattle.rules.specs.Unplug.{straight, unplug, verdict_in, voter_left}
 use Rattle.rules.proofs.Theorems.{unplug-is-told}
 use Rattle.tracker.specs.Bridge.{state_of}
-use Rattle.tracker.specs.Apply.{verdictOf}
-use Rattle.tracker.specs.Form.{trackerWellFormed}
+use Rattle.tracker.specs.Apply.{verdict_of}
+use Rattle.tracker.specs.Form.{tracker_well_formed}
 use Rattle.tracker.specs.declared.Configuration.{Configuration}
 use Rattle.tracker.specs.declared.Tracker.{Tracker}
 use Rattle.tracker.specs.declared.Verdict.{Verdict}
-use Rattle.tracker.proofs.Bridge.{tracker-formed}
-use Rattle.changer.specs.Before.{mayUnplug, ownCheck}
-use Rattle.changer.specs.Calls.{answer_of, simpleAnswer, unplugOf}
-use Rattle.changer.proofs.Same.{own-check}
+use Rattle.tracker.proofs.Bridge.{tracker_formed}
+use Rattle.changer.specs.Before.{may_unplug, own_check}
+use Rattle.changer.specs.Calls.{answer_of, simple_answer, unplug_of}
+use Rattle.changer.proofs.Same.{own_check_lem}
 
 -- number and id of an answer's struct are those of the answer
-told : (c : Configuration) (i : ℕ) (a : rules.Answer) → ◌≡◌ {A = Verdict} (record { number = (answer_of c i a).number; id = (answer_of c i a).id }) (verdictOf (verdictIn a))
+told : (c : Configuration) (i : ℕ) (a : rules.Answer) → ◌≡◌ {A = Verdict} (record { number = (answer_of c i a).number; id = (answer_of c i a).id }) (verdict_of (verdict_in a))
 told c i (accepted d log) = refl
 told c i (refused n y) = refl
 
@@ -33,24 +33,24 @@ module _ (t : Tracker) (x : ℕ) where
   s = state_of t
 
   abbrev after : rules.Verdict
-  after = refuse (joint s.conf) 6 0 ▸ ownCheck t ▸ refuse (not (voterLeft x s.conf.incoming)) 17 0
+  after = refuse (joint s.conf) 6 0 ▸ own_check t ▸ refuse (not (voter_left x s.conf.incoming)) 17 0
 
   -- of a well-formed state, what the rules say
-  pub unplug-rules : trackerWellFormed t ≡ true → unplugOf t x ≡ verdictOf (unplug s x)
-  unfolding unplugOf simpleAnswer unplug
-  unplug-rules w = rw w (told t.conf (simpleIdles s (x ∷ []) (1 ∷ [])) (simple s (x ∷ []) (1 ∷ [])))
+  pub unplug_rules : tracker_well_formed t ≡ true → unplug_of t x ≡ verdict_of (unplug s x)
+  unfolding unplug_of simple_answer unplug
+  unplug_rules w = rw w (told t.conf (simple_idles s (x ∷ []) (1 ∷ [])) (simple s (x ∷ []) (1 ∷ [])))
 
-  pub unplug-ill : trackerWellFormed t ≡ false → unplugOf t x ≡ verdictOf (fault 1 0)
-  unfolding unplugOf simpleAnswer
-  unplug-ill w = rw w
+  pub unplug_ill : tracker_well_formed t ≡ false → unplug_of t x ≡ verdict_of (fault 1 0)
+  unfolding unplug_of simple_answer
+  unplug_ill w = rw w
 
-  tested : trackerWellFormed t ≡ true → unplug s x ≡ after
+  tested : tracker_well_formed t ≡ true → unplug s x ≡ after
   unfolding straight
-  tested w = unplug-is-told s x ∙ rw (tracker-formed t w, ← own-check t w)
+  tested w = unplug-is-told s x ∙ rw (tracker_formed t w, ← own_check_lem t w)
 
-  pub unplug-told : unplugOf t x ≡ mayUnplug t x
-  unplug-told = go (trackerWellFormed t) refl
+  pub unplug-told : unplug_of t x ≡ may_unplug t x
+  unplug-told = go (tracker_well_formed t) refl
     where
-      go : (b : Bool) → trackerWellFormed t ≡ b → unplugOf t x ≡ cond b (verdictOf after) (verdictOf (fault 1 0))
-      go true w = unplug-rules w ∙ ap verdictOf (tested w)
-      go false w = unplug-ill w
+      go : (b : Bool) → tracker_well_formed t ≡ b → unplug_of t x ≡ cond b (verdict_of after) (verdict_of (fault 1 0))
+      go true w = unplug_rules w ∙ ap verdict_of (tested w)
+      go false w = unplug_ill w

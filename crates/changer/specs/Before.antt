@@ -5,47 +5,47 @@ use Rattle.rules.specs.Answers as rules
 use Rattle.rules.specs.Answers.{fault, refuse, ◌▸◌}
 use Rattle.rules.specs.Check.{joint}
 use Rattle.rules.specs.Calls.{readable}
-use Rattle.rules.specs.Unplug.{voterLeft}
+use Rattle.rules.specs.Unplug.{voter_left}
 use Rattle.idset.specs.Set.{held}
-use Rattle.tracker.specs.Bridge.{confOf}
-use Rattle.tracker.specs.Form.{trackerWellFormed}
-use Rattle.tracker.specs.Apply.{verdictOf}
+use Rattle.tracker.specs.Bridge.{conf_of}
+use Rattle.tracker.specs.Form.{tracker_well_formed}
+use Rattle.tracker.specs.Apply.{verdict_of}
 use Rattle.tracker.specs.declared.Tracker.{Tracker}
 use Rattle.tracker.specs.declared.Verdict.{Verdict}
-use Rattle.invariants.specs.Check.{checkWalk}
+use Rattle.invariants.specs.Check.{check_walk}
 
 -- 1, then what else is tested
-abbrev pub formedThen : Tracker → rules.Verdict → Verdict
-formedThen t v = cond (trackerWellFormed t) (verdictOf v) (verdictOf (fault 1 0))
+abbrev pub formed_then : Tracker → rules.Verdict → Verdict
+formed_then t v = cond (tracker_well_formed t) (verdict_of v) (verdict_of (fault 1 0))
 
 -- the check of a state's own configuration and ids
-abbrev pub ownCheck : Tracker → rules.Verdict
-ownCheck t = checkWalk (held t.ids) (confOf t.conf)
+abbrev pub own_check : Tracker → rules.Verdict
+own_check t = check_walk (held t.ids) (conf_of t.conf)
 
 -- 2, 3
-abbrev pub readableIn : List ℕ → List ℕ → Verdict
-readableIn ids kinds = verdictOf (readable ids kinds)
+abbrev pub readable_in : List ℕ → List ℕ → Verdict
+readable_in ids kinds = verdict_of (readable ids kinds)
 
 -- a kind above 2
-unfoldable pub anyAbove2 : List ℕ → Bool
-anyAbove2 [] = false
-anyAbove2 (k ∷ ks) = ltb 2 k || anyAbove2 ks
+unfoldable pub any_above2 : List ℕ → Bool
+any_above2 [] = false
+any_above2 (k ∷ ks) = ltb 2 k || any_above2 ks
 
 -- 1, 2, 3; 4; the check; 15
-abbrev pub mayEnter : Tracker → List ℕ → List ℕ → Verdict
-mayEnter t ids kinds =
-    formedThen t (readable ids kinds ▸ refuse (joint (confOf t.conf)) 4 0 ▸ ownCheck t ▸ refuse (is_empty (held t.conf.incoming)) 15 0)
+abbrev pub may_enter : Tracker → List ℕ → List ℕ → Verdict
+may_enter t ids kinds =
+    formed_then t (readable ids kinds ▸ refuse (joint (conf_of t.conf)) 4 0 ▸ own_check t ▸ refuse (is_empty (held t.conf.incoming)) 15 0)
 
 -- 1; 5; the check
-abbrev pub mayLeave : Tracker → Verdict
-mayLeave t = formedThen t (refuse (not (joint (confOf t.conf))) 5 0 ▸ ownCheck t)
+abbrev pub may_leave : Tracker → Verdict
+may_leave t = formed_then t (refuse (not (joint (conf_of t.conf))) 5 0 ▸ own_check t)
 
 -- 1, 2, 3; 6; the check
-abbrev pub maySimple : Tracker → List ℕ → List ℕ → Verdict
-maySimple t ids kinds = formedThen t (readable ids kinds ▸ refuse (joint (confOf t.conf)) 6 0 ▸ ownCheck t)
+abbrev pub may_simple : Tracker → List ℕ → List ℕ → Verdict
+may_simple t ids kinds = formed_then t (readable ids kinds ▸ refuse (joint (conf_of t.conf)) 6 0 ▸ own_check t)
 
 -- ** Whether a box can be unplugged, without the changes
 
 -- 1; 6; the check; 17
-abbrev pub mayUnplug : Tracker → ℕ → Verdict
-mayUnplug t x = formedThen t (refuse (joint (confOf t.conf)) 6 0 ▸ ownCheck t ▸ refuse (not (voterLeft x (held t.conf.incoming))) 17 0)
+abbrev pub may_unplug : Tracker → ℕ → Verdict
+may_unplug t x = formed_then t (refuse (joint (conf_of t.conf)) 6 0 ▸ own_check t ▸ refuse (not (voter_left x (held t.conf.incoming))) 17 0)

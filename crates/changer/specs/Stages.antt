@@ -3,36 +3,36 @@ use Rattle.std.specs.Prelude.{ℕ, min, Bool, false, ◌||◌, cond, List, [], �
 use Rattle.rules.specs.Ids.{is_empty}
 use Rattle.rules.specs.State.{Entry, add, remove}
 use Rattle.rules.specs.Calls.{removals}
-use Rattle.idset.specs.Places.{firstIs, twoApart}
-use Rattle.idset.specs.Set.{held, setOf, insertOf, removeOf, unionOf}
+use Rattle.idset.specs.Places.{first_is, two_apart}
+use Rattle.idset.specs.Set.{held, set_of, insert_of, remove_of, union_of}
 use Rattle.idset.specs.declared.IdSet.{IdSet}
-use Rattle.tracker.specs.Bridge.{confOf, logOf, changeLogOf}
-use Rattle.tracker.specs.Apply.{verdictOf}
+use Rattle.tracker.specs.Bridge.{conf_of, log_of, change_log_of}
+use Rattle.tracker.specs.Apply.{verdict_of}
 use Rattle.tracker.specs.declared.Configuration.{Configuration}
 use Rattle.tracker.specs.declared.ChangeLog.{ChangeLog}
 use Rattle.tracker.specs.declared.Tracker.{Tracker}
 use Rattle.tracker.specs.declared.Verdict.{Verdict}
 use Rattle.invariants.specs.Walk.{past}
-use Rattle.invariants.specs.Check.{checkWalk}
-use Rattle.changes.specs.Change.{workIn, changesIn}
+use Rattle.invariants.specs.Check.{check_walk}
+use Rattle.changes.specs.Change.{work_in, changes_in}
 use Rattle.changes.specs.declared.Work.{Work}
-use Rattle.changer.specs.Before.{mayEnter, mayLeave, maySimple}
+use Rattle.changer.specs.Before.{may_enter, may_leave, may_simple}
 use Rattle.changer.specs.declared.Answer.{Answer}
 
-abbrev pub acceptedIn : Configuration → ChangeLog → ℕ → Answer
-acceptedIn c log i = record { number = 0; id = 0; conf = c; log = log; idle = i }
+abbrev pub accepted_in : Configuration → ChangeLog → ℕ → Answer
+accepted_in c log i = record { number = 0; id = 0; conf = c; log = log; idle = i }
 
-abbrev pub refusedIn : Configuration → ℕ → ℕ → Answer
-refusedIn c n x = record { number = n; id = x; conf = c; log = changeLogOf []; idle = 0 }
+abbrev pub refused_in : Configuration → ℕ → ℕ → Answer
+refused_in c n x = record { number = n; id = x; conf = c; log = change_log_of []; idle = 0 }
 
 -- where the tests refuse, the configuration that was given; else the rest
 abbrev pub given : Verdict → Configuration → Answer → Answer
-given v c a = cond (eqb v.number 0) a (refusedIn c v.number v.id)
+given v c a = cond (eqb v.number 0) a (refused_in c v.number v.id)
 
 -- ** The changes
 
-abbrev pub enteringIn : Configuration → Configuration
-enteringIn c =
+abbrev pub entering_in : Configuration → Configuration
+entering_in c =
     record {
       incoming = c.incoming;
       outgoing = c.incoming;
@@ -41,8 +41,8 @@ enteringIn c =
       auto_leave = c.auto_leave;
     }
 
-abbrev pub withAuto : Bool → Configuration → Configuration
-withAuto auto c =
+abbrev pub with_auto : Bool → Configuration → Configuration
+with_auto auto c =
     record {
       incoming = c.incoming;
       outgoing = c.outgoing;
@@ -51,78 +51,78 @@ withAuto auto c =
       auto_leave = auto;
     }
 
-abbrev pub withAutoIn : Bool → Answer → Answer
-withAutoIn auto a = record { number = a.number; id = a.id; conf = withAuto auto a.conf; log = a.log; idle = a.idle }
+abbrev pub with_auto_in : Bool → Answer → Answer
+with_auto_in auto a = record { number = a.number; id = a.id; conf = with_auto auto a.conf; log = a.log; idle = a.idle }
 
 -- 16, 17, or what the list came to
-abbrev pub afterList : Configuration → Work → Answer
-afterList c w =
-    cond w.full (refusedIn c 16 w.id)
-    (cond (is_empty (held w.conf.incoming)) (refusedIn c 17 0)
-    (acceptedIn w.conf w.log w.idle))
+abbrev pub after_list : Configuration → Work → Answer
+after_list c w =
+    cond w.full (refused_in c 16 w.id)
+    (cond (is_empty (held w.conf.incoming)) (refused_in c 17 0)
+    (accepted_in w.conf w.log w.idle))
 
-abbrev pub carriedIn : IdSet → Configuration → List ℕ → List ℕ → Answer
-carriedIn tracked c ids kinds = afterList c (changesIn (held tracked) ids kinds (workIn c (changeLogOf []) (min tracked.len 64) 0))
+abbrev pub carried_in : IdSet → Configuration → List ℕ → List ℕ → Answer
+carried_in tracked c ids kinds = after_list c (changes_in (held tracked) ids kinds (work_in c (change_log_of []) (min tracked.len 64) 0))
 
 -- ** After the changes
 
 -- one entry over the tracked ids, and a log over them
-abbrev pub pendingOne : Entry → IdSet → IdSet
-pendingOne (add x) s = (insertOf x s).set
-pendingOne (remove x) s = (removeOf x s).set
+abbrev pub pending_one : Entry → IdSet → IdSet
+pending_one (add x) s = (insert_of x s).set
+pending_one (remove x) s = (remove_of x s).set
 
-unfoldable pub pendingIn : List Entry → IdSet → IdSet
-pendingIn [] s = s
-pendingIn (e ∷ es) s = pendingIn es (pendingOne e s)
+unfoldable pub pending_in : List Entry → IdSet → IdSet
+pending_in [] s = s
+pending_in (e ∷ es) s = pending_in es (pending_one e s)
 
 -- the check again
-abbrev pub againIn : IdSet → Configuration → Answer → Answer
-againIn tracked c a = given (verdictOf (checkWalk (held (pendingIn (logOf a.log) tracked)) (confOf a.conf))) c a
+abbrev pub again_in : IdSet → Configuration → Answer → Answer
+again_in tracked c a = given (verdict_of (check_walk (held (pending_in (log_of a.log) tracked)) (conf_of a.conf))) c a
 
 -- ** Leaving
 
 -- those of outgoing that the walk meets neither in incoming nor in learners
-unfoldable pub goneWalk : List ℕ → List ℕ → List ℕ → List ℕ
-goneWalk [] is ls = []
-goneWalk (x ∷ xs) is ls =
-    cond (firstIs x (past x is) || firstIs x (past x ls))
-    (goneWalk xs (past x is) (past x ls))
-    (x ∷ goneWalk xs (past x is) (past x ls))
+unfoldable pub gone_walk : List ℕ → List ℕ → List ℕ → List ℕ
+gone_walk [] is ls = []
+gone_walk (x ∷ xs) is ls =
+    cond (first_is x (past x is) || first_is x (past x ls))
+    (gone_walk xs (past x is) (past x ls))
+    (x ∷ gone_walk xs (past x is) (past x ls))
 
-abbrev pub learnersAfter : Configuration → IdSet
-learnersAfter c = (unionOf c.learners_next c.learners).set
+abbrev pub learners_after : Configuration → IdSet
+learners_after c = (union_of c.learners_next c.learners).set
 
-abbrev pub leftIn : Configuration → Configuration
-leftIn c =
+abbrev pub left_in : Configuration → Configuration
+left_in c =
     record {
       incoming = c.incoming;
-      outgoing = setOf [];
-      learners = learnersAfter c;
-      learners_next = setOf [];
+      outgoing = set_of [];
+      learners = learners_after c;
+      learners_next = set_of [];
       auto_leave = false;
     }
 
-abbrev pub leavingIn : Configuration → Answer
-leavingIn c = acceptedIn (leftIn c) (changeLogOf (removals (goneWalk (held c.outgoing) (held c.incoming) (held (learnersAfter c))))) 0
+abbrev pub leaving_in : Configuration → Answer
+leaving_in c = accepted_in (left_in c) (change_log_of (removals (gone_walk (held c.outgoing) (held c.incoming) (held (learners_after c))))) 0
 
 -- ** The calls
 
 -- an accepted answer goes on; a refused one is given with the configuration that was asked of
-abbrev pub thenOn : Configuration → Answer → Answer → Answer
-thenOn c a b = cond (eqb a.number 0) b (refusedIn c a.number a.id)
+abbrev pub then_on : Configuration → Answer → Answer → Answer
+then_on c a b = cond (eqb a.number 0) b (refused_in c a.number a.id)
 
-unfoldable pub enterIn : Tracker → Bool → List ℕ → List ℕ → Answer
-enterIn t auto ids kinds =
-    given (mayEnter t ids kinds) t.conf
-    (let a : Answer = carriedIn t.ids (enteringIn t.conf) ids kinds in
-    thenOn t.conf a (againIn t.ids t.conf (withAutoIn auto a)))
+unfoldable pub enter_in : Tracker → Bool → List ℕ → List ℕ → Answer
+enter_in t auto ids kinds =
+    given (may_enter t ids kinds) t.conf
+    (let a : Answer = carried_in t.ids (entering_in t.conf) ids kinds in
+    then_on t.conf a (again_in t.ids t.conf (with_auto_in auto a)))
 
-unfoldable pub leaveIn : Tracker → Answer
-leaveIn t = given (mayLeave t) t.conf (againIn t.ids t.conf (leavingIn t.conf))
+unfoldable pub leave_in : Tracker → Answer
+leave_in t = given (may_leave t) t.conf (again_in t.ids t.conf (leaving_in t.conf))
 
-unfoldable pub simpleIn : Tracker → List ℕ → List ℕ → Answer
-simpleIn t ids kinds =
-    given (maySimple t ids kinds) t.conf
-    (let a : Answer = carriedIn t.ids t.conf ids kinds in
-    thenOn t.conf a
-    (cond (twoApart false (held a.conf.incoming) (held t.conf.incoming)) (refusedIn t.conf 18 0) (againIn t.ids t.conf a)))
+unfoldable pub simple_in : Tracker → List ℕ → List ℕ → Answer
+simple_in t ids kinds =
+    given (may_simple t ids kinds) t.conf
+    (let a : Answer = carried_in t.ids t.conf ids kinds in
+    then_on t.conf a
+    (cond (two_apart false (held a.conf.incoming) (held t.conf.incoming)) (refused_in t.conf 18 0) (again_in t.ids t.conf a)))

@@ -4,11 +4,11 @@
 ghost use Rattle.std.specs.Prelude.{◌≡◌, false, ◌||◌, cond, min};
 ghost use Rattle.rules.specs.Calls as rules;
 ghost use Rattle.idset.specs.Set.{held};
-ghost use Rattle.tracker.specs.Bridge.{entry_of, logOf, changeLogOf};
-ghost use Rattle.changes.specs.Change.{pushIn};
-ghost use Rattle.changer.specs.Calls.{enterAnswer, leaveAnswer, simpleAnswer};
-ghost use Rattle.changer.specs.Before.{readableIn, anyAbove2, mayEnter, mayLeave, maySimple};
-ghost use Rattle.changer.specs.Stages.{refusedIn, acceptedIn, enteringIn, carriedIn, againIn, pendingOne, pendingIn, leavingIn, goneWalk};
+ghost use Rattle.tracker.specs.Bridge.{entry_of, log_of, change_log_of};
+ghost use Rattle.changes.specs.Change.{push_in};
+ghost use Rattle.changer.specs.Calls.{enter_answer, leave_answer, simple_answer};
+ghost use Rattle.changer.specs.Before.{readable_in, any_above2, may_enter, may_leave, may_simple};
+ghost use Rattle.changer.specs.Stages.{refused_in, accepted_in, entering_in, carried_in, again_in, pending_one, pending_in, leaving_in, gone_walk};
 
 use changes::Work;
 use idset::IdSet;
@@ -30,7 +30,7 @@ pub struct Answer {
 // majority config. That is, it transitions from (1 2 3)&&() to (1 2 3)&&(1 2 3). The supplied changes are then applied to the incoming
 // majority config, resulting in a joint configuration that in terms of the Raft thesis (section 4.3) corresponds to C_{new,old}.
 pub fn enter_joint<'a>(t: Tracker, auto_leave: bool, ids: &'a [u64], kinds: &'a [u8]) -> Answer
-    ensures { result ≡ enterAnswer t auto_leave ids.now kinds.now }
+    ensures { result ≡ enter_answer t auto_leave ids.now kinds.now }
 {
     let conf = t.conf;
     let tracked = t.ids;
@@ -50,7 +50,7 @@ pub fn enter_joint<'a>(t: Tracker, auto_leave: bool, ids: &'a [u64], kinds: &'a 
 // decision maker. At the same time, any staged learners will be inserted into learners. In the notation of the Raft thesis (section 4.3),
 // this transitions from C_{new,old} into C_new.
 pub fn leave_joint(t: Tracker) -> Answer
-    ensures { result ≡ leaveAnswer t }
+    ensures { result ≡ leave_answer t }
 {
     let conf = t.conf;
     let tracked = t.ids;
@@ -64,7 +64,7 @@ pub fn leave_joint(t: Tracker) -> Answer
 // Carries out a series of configuration changes that (in aggregate) mutates the incoming majority config by at most one. It is refused if that
 // is not the case, if the resulting quorum is zero, or if the configuration is in a joint state.
 pub fn simple<'a>(t: Tracker, ids: &'a [u64], kinds: &'a [u8]) -> Answer
-    ensures { result ≡ simpleAnswer t ids.now kinds.now }
+    ensures { result ≡ simple_answer t ids.now kinds.now }
 {
     let conf = t.conf;
     let tracked = t.ids;
@@ -89,7 +89,7 @@ pub fn simple<'a>(t: Tracker, ids: &'a [u64], kinds: &'a [u8]) -> Answer
 
 // A refusal: the configuration given, and an empty log.
 fn refused(conf: Configuration, number: u64, id: u64) -> Answer
-    ensures { result ≡ refusedIn conf number id }
+    ensures { result ≡ refused_in conf number id }
 {
     let log = ChangeLog::new();
     Answer {
@@ -103,7 +103,7 @@ fn refused(conf: Configuration, number: u64, id: u64) -> Answer
 
 // 2, 3.
 fn readable<'a>(ids: &'a [u64], kinds: &'a [u8]) -> Verdict
-    ensures { result ≡ readableIn ids.now kinds.now }
+    ensures { result ≡ readable_in ids.now kinds.now }
 {
     if ids.len() != kinds.len() {
         return verdict(numbers::LIST_TOO_LONG);
@@ -125,7 +125,7 @@ fn verdict(number: u64) -> Verdict
 
 // Whether a kind is above 2.
 fn above_2(kinds: &[u8]) -> bool
-    ensures { result ≡ anyAbove2 kinds.now }
+    ensures { result ≡ any_above2 kinds.now }
 {
     let mut i = 0;
     while i < kinds.len() {
@@ -139,7 +139,7 @@ fn above_2(kinds: &[u8]) -> bool
 
 // 1, 2, 3; 4; the check; 15.
 fn may_enter<'a>(t: Tracker, ids: &'a [u64], kinds: &'a [u8]) -> Verdict
-    ensures { result ≡ mayEnter t ids.now kinds.now }
+    ensures { result ≡ may_enter t ids.now kinds.now }
 {
     let conf = t.conf;
     let tracked = t.ids;
@@ -166,7 +166,7 @@ fn may_enter<'a>(t: Tracker, ids: &'a [u64], kinds: &'a [u8]) -> Verdict
 
 // 1; 5; the check.
 fn may_leave(t: Tracker) -> Verdict
-    ensures { result ≡ mayLeave t }
+    ensures { result ≡ may_leave t }
 {
     if t.is_malformed() {
         return verdict(numbers::MALFORMED);
@@ -180,7 +180,7 @@ fn may_leave(t: Tracker) -> Verdict
 
 // 1, 2, 3; 6; the check.
 fn may_simple<'a>(t: Tracker, ids: &'a [u64], kinds: &'a [u8]) -> Verdict
-    ensures { result ≡ maySimple t ids.now kinds.now }
+    ensures { result ≡ may_simple t ids.now kinds.now }
 {
     let conf = t.conf;
     let tracked = t.ids;
@@ -199,7 +199,7 @@ fn may_simple<'a>(t: Tracker, ids: &'a [u64], kinds: &'a [u8]) -> Verdict
 
 // Outgoing a copy of incoming.
 fn entering(conf: Configuration) -> Configuration
-    ensures { result ≡ enteringIn conf }
+    ensures { result ≡ entering_in conf }
 {
     let mut c = conf;
     let incoming = conf.incoming;
@@ -209,7 +209,7 @@ fn entering(conf: Configuration) -> Configuration
 
 // The changes, stopping at the first 16; 17.
 fn carry_out<'a>(tracked: IdSet, conf: Configuration, ids: &'a [u64], kinds: &'a [u8]) -> Answer
-    ensures { result ≡ carriedIn tracked conf ids.now kinds.now }
+    ensures { result ≡ carried_in tracked conf ids.now kinds.now }
 {
     let n = least(tracked.len);
     let log = ChangeLog::new();
@@ -234,7 +234,7 @@ fn carry_out<'a>(tracked: IdSet, conf: Configuration, ids: &'a [u64], kinds: &'a
 }
 
 fn accepted(conf: Configuration, log: ChangeLog, idle: usize) -> Answer
-    ensures { result ≡ acceptedIn conf log idle }
+    ensures { result ≡ accepted_in conf log idle }
 {
     Answer {
         number: numbers::ACCEPTED,
@@ -258,7 +258,7 @@ fn least(n: usize) -> usize
 
 // The check again, of what is answered: with the ids that are tracked once the log is applied. A fault refuses, with the configuration given.
 fn check_again(tracked: IdSet, given: Configuration, a: Answer) -> Answer
-    ensures { result ≡ againIn tracked given a }
+    ensures { result ≡ again_in tracked given a }
 {
     let conf = a.conf;
     let log = a.log;
@@ -271,7 +271,7 @@ fn check_again(tracked: IdSet, given: Configuration, a: Answer) -> Answer
 
 // The tracked ids with the log over them.
 fn tracked_after(tracked: IdSet, log: ChangeLog) -> IdSet
-    ensures { result ≡ pendingIn (logOf log) tracked }
+    ensures { result ≡ pending_in (log_of log) tracked }
 {
     let mut ids = tracked;
     let n = log.count;
@@ -288,7 +288,7 @@ fn tracked_after(tracked: IdSet, log: ChangeLog) -> IdSet
 }
 
 fn tracked_then(ids: IdSet, e: MapChange) -> IdSet
-    ensures { result ≡ pendingOne (entry_of e) ids }
+    ensures { result ≡ pending_one (entry_of e) ids }
 {
     let kind = e.kind;
     match kind {
@@ -305,7 +305,7 @@ fn tracked_then(ids: IdSet, e: MapChange) -> IdSet
 
 // Staged ids join learners; each outgoing id now neither incoming nor learner is logged Remove; outgoing empties; the flag is false.
 fn leave(conf: Configuration) -> Answer
-    ensures { result ≡ leavingIn conf }
+    ensures { result ≡ leaving_in conf }
 {
     let joined = conf.learners_next.union(conf.learners);
     let learners = joined.set;
@@ -324,7 +324,7 @@ fn leave(conf: Configuration) -> Answer
 
 // A Remove for each outgoing id that is neither incoming nor learner, ascending: the three sets are walked side by side.
 fn removals(outgoing: IdSet, incoming: IdSet, learners: IdSet) -> ChangeLog
-    ensures { result ≡ changeLogOf (rules.removals (goneWalk (held outgoing) (held incoming) (held learners))) }
+    ensures { result ≡ change_log_of (rules.removals (gone_walk (held outgoing) (held incoming) (held learners))) }
 {
     let mut log = ChangeLog::new();
     let n = outgoing.len;
@@ -350,7 +350,7 @@ fn removals(outgoing: IdSet, incoming: IdSet, learners: IdSet) -> ChangeLog
 }
 
 fn removal(log: ChangeLog, id: u64, voter: bool, learner: bool) -> ChangeLog
-    ensures { result ≡ cond (voter || learner) log (pushIn id MapChangeType.Remove log) }
+    ensures { result ≡ cond (voter || learner) log (push_in id MapChangeType.Remove log) }
 {
     if voter {
         return log;

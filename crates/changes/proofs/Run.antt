@@ -4,16 +4,16 @@ use mathlib.Core.Path.{◌≡◌, refl, sym, ◌∙◌}
 use mathlib.Core.Bool.{Bool, true, false, cond, true≢false, false≢true}
 use mathlib.Core.List.{List, [], ◌∷◌}
 use native.Mathlib.Numerals.{add-one}
-use lib.ListN.{length, drop, get_or, drop_of_length-le}
+use lib.ListN.{length, drop, get_or, drop_of_length_le}
 use lib.Seq.{drop-cons}
-use Rattle.changes.specs.Table.{kindIn}
-use Rattle.changes.specs.Change.{changeIn, changesIn}
+use Rattle.changes.specs.Table.{kind_in}
+use Rattle.changes.specs.Change.{change_in, changes_in}
 use Rattle.changes.specs.declared.Work.{Work}
 use Rattle.changes.specs.declared.table.Kind.{Kind}
 
 -- no kind is left
-none_left : (base xs : List ℕ) (w : Work) → changesIn base xs [] w ≡ w
-unfolding changesIn
+none_left : (base xs : List ℕ) (w : Work) → changes_in base xs [] w ≡ w
+unfolding changes_in
 none_left base [] w = refl
 none_left base (x ∷ xs) w = refl
 
@@ -27,22 +27,22 @@ second false v w u f e = e
 
 -- a run of the list xs with the kinds ks, started with w₀, that has passed i of them and has got to w
 pub record Running (base xs ks : List ℕ) (w₀ w : Work) (i : ℕ) : Type 0 where
-  pub same : changesIn base (drop i xs) (drop i ks) w ≡ changesIn base xs ks w₀
+  pub same : changes_in base (drop i xs) (drop i ks) w ≡ changes_in base xs ks w₀
 
 module _ {base xs ks : List ℕ} {w₀ w : Work} {i : ℕ} (r : Running base xs ks w₀ w i) where
-  pub run_end : length xs ≤ i → w ≡ changesIn base xs ks w₀
-  unfolding changesIn
-  run_end h = rw (drop_of_length-le xs h) at r.same
+  pub run_end : length xs ≤ i → w ≡ changes_in base xs ks w₀
+  unfolding changes_in
+  run_end h = rw (drop_of_length_le xs h) at r.same
 
-  pub run_short : length ks ≤ i → w ≡ changesIn base xs ks w₀
-  run_short h = sym (none_left base (drop i xs) w) ∙ rw (drop_of_length-le ks h) at r.same
+  pub run_short : length ks ≤ i → w ≡ changes_in base xs ks w₀
+  run_short h = sym (none_left base (drop i xs) w) ∙ rw (drop_of_length_le ks h) at r.same
 
-  module _ (h : i < length xs) (g : i < length ks) (k : Kind) (v : Work) (e : k ≡ kindIn (get_or ks i 0)) (d : v ≡ changeIn base (get_or xs i 0) k w) where
-    turn : cond v.full v (changesIn base (drop (i + 1) xs) (drop (i + 1) ks) v) ≡ changesIn base xs ks w₀
-    unfolding changesIn
+  module _ (h : i < length xs) (g : i < length ks) (k : Kind) (v : Work) (e : k ≡ kind_in (get_or ks i 0)) (d : v ≡ change_in base (get_or xs i 0) k w) where
+    turn : cond v.full v (changes_in base (drop (i + 1) xs) (drop (i + 1) ks) v) ≡ changes_in base xs ks w₀
+    unfolding changes_in
     turn = rw (d, e, add-one) (rw (drop-cons xs i 0 h, drop-cons ks i 0 g) at r.same)
 
-    pub run-full : v.full ≡ true → v ≡ changesIn base xs ks w₀
+    pub run-full : v.full ≡ true → v ≡ changes_in base xs ks w₀
     run-full f = first v.full v _ _ f turn
 
     pub run-next : v.full ≡ false → Running base xs ks w₀ v (i + 1)

@@ -12,24 +12,24 @@ use Rattle.changes.specs.declared.table.Move.{Move}
 
 -- ** The code's names for the rules'
 
-abbrev pub standingNamed : Standing → rules.Standing
-standingNamed None = rules.none
-standingNamed Idle = rules.idle
-standingNamed I = rules.I
-standingNamed L = rules.L
-standingNamed O = rules.O
-standingNamed IO = rules.IO
-standingNamed OS = rules.OS
+abbrev pub standing_named : Standing → rules.Standing
+standing_named None = rules.none
+standing_named Idle = rules.idle
+standing_named I = rules.I
+standing_named L = rules.L
+standing_named O = rules.O
+standing_named IO = rules.IO
+standing_named OS = rules.OS
 
-abbrev pub kindNamed : Kind → state.Kind
-kindNamed AddNode = state.addNode
-kindNamed AddLearnerNode = state.addLearner
-kindNamed RemoveNode = state.removeNode
+abbrev pub kind_named : Kind → state.Kind
+kind_named AddNode = state.addNode
+kind_named AddLearnerNode = state.addLearner
+kind_named RemoveNode = state.removeNode
 
-abbrev pub effectNamed : Effect → rules.Effect
-effectNamed Stays = rules.stays
-effectNamed Adds = rules.adds
-effectNamed Removes = rules.removes
+abbrev pub effect_named : Effect → rules.Effect
+effect_named Stays = rules.stays
+effect_named Adds = rules.adds
+effect_named Removes = rules.removes
 
 -- ** The table
 
@@ -48,38 +48,38 @@ move_of IO = row IO Stays OS Stays O Stays
 move_of OS = row IO Stays OS Stays O Stays
 
 -- the row and the column at which the constant has a move
-abbrev pub placeNumber : Standing → ℕ
-placeNumber None = 0
-placeNumber Idle = 1
-placeNumber I = 2
-placeNumber L = 3
-placeNumber O = 4
-placeNumber IO = 5
-placeNumber OS = 6
+abbrev pub place_number : Standing → ℕ
+place_number None = 0
+place_number Idle = 1
+place_number I = 2
+place_number L = 3
+place_number O = 4
+place_number IO = 5
+place_number OS = 6
 
-abbrev pub columnNumber : Kind → ℕ
-columnNumber AddNode = 0
-columnNumber AddLearnerNode = 1
-columnNumber RemoveNode = 2
+abbrev pub column_number : Kind → ℕ
+column_number AddNode = 0
+column_number AddLearnerNode = 1
+column_number RemoveNode = 2
 
 -- "0 AddNode, 1 RemoveNode, 2 AddLearnerNode"
-abbrev pub kindIn : ℕ → Kind
-kindIn k = cond (eqb k 0) AddNode (cond (eqb k 1) RemoveNode AddLearnerNode)
+abbrev pub kind_in : ℕ → Kind
+kind_in k = cond (eqb k 0) AddNode (cond (eqb k 1) RemoveNode AddLearnerNode)
 
 -- ** Standings and sets
 
-abbrev pub voterRow : Bool → Bool → Standing
-voterRow i s = cond i IO (cond s OS O)
+abbrev pub voter_row : Bool → Bool → Standing
+voter_row i s = cond i IO (cond s OS O)
 
 -- tracked, incoming, outgoing, learner, staged
 abbrev pub row_of : Bool → Bool → Bool → Bool → Bool → Standing
-row_of t i o l s = cond (not t) None (cond o (voterRow i s) (cond i I (cond l L Idle)))
+row_of t i o l s = cond (not t) None (cond o (voter_row i s) (cond i I (cond l L Idle)))
 
-abbrev pub incomingAt : Standing → Bool
-incomingAt s = (rules.places_of (standingNamed s)).incoming
+abbrev pub incoming_at : Standing → Bool
+incoming_at s = (rules.places_of (standing_named s)).incoming
 
-abbrev pub learnerAt : Standing → Bool
-learnerAt s = (rules.places_of (standingNamed s)).learner
+abbrev pub learner_at : Standing → Bool
+learner_at s = (rules.places_of (standing_named s)).learner
 
-abbrev pub stagedAt : Standing → Bool
-stagedAt s = (rules.places_of (standingNamed s)).staged
+abbrev pub staged_at : Standing → Bool
+staged_at s = (rules.places_of (standing_named s)).staged

@@ -1,7 +1,7 @@
 // A list of changes: `apply` of src/confchange/changer.rs. What `make_voter`, `make_learner` and `remove` do there are the columns of the
 // table of standings here (table.rt); `init_progress` is its first row.
 ghost use Rattle.std.specs.Prelude.{◌≡◌, ◌||◌, ◌-◌};
-ghost use Rattle.changes.specs.Change.{standsIn, put_in, changedIn, place_in, anyChangedIn, oneMore, idleAfter, pushIn, workIn, movedIn, changeIn, changesIn};
+ghost use Rattle.changes.specs.Change.{stands_in, put_in, changed_in, place_in, any_changed_in, one_more, idle_after, push_in, work_in, moved_in, change_in, changes_in};
 
 use idset::IdSet;
 use tracker::{ChangeLog, Configuration, MapChange, MapChangeType, Tracker};
@@ -41,7 +41,7 @@ pub struct Placed {
 // Applies a change list to the configuration; it stops at the first id for which there is no room. By convention, changes to voters are
 // always made to incoming. Outgoing is either empty or preserves the outgoing configuration while in a joint state.
 pub fn apply<'a>(w: Work, base: &'a [u64], ids: &'a [u64], kinds: &'a [u8]) -> Work
-    ensures { result ≡ changesIn base.now ids.now kinds.now w }
+    ensures { result ≡ changes_in base.now ids.now kinds.now w }
 {
     let mut v = w;
     let mut i = 0;
@@ -60,11 +60,11 @@ pub fn apply<'a>(w: Work, base: &'a [u64], ids: &'a [u64], kinds: &'a [u8]) -> W
 
 // One change, by the table. One with id 0 is skipped: it did nothing.
 pub fn change(w: Work, base: &[u64], id: u64, kind: table::Kind) -> Work
-    ensures { result ≡ changeIn base.now id kind w }
+    ensures { result ≡ change_in base.now id kind w }
 {
     if id == 0 {
         let mut skipped = w;
-        skipped.idle = one_more(w.idle);
+        skipped.idle = one_more_lem(w.idle);
         return skipped;
     }
     let log = w.log;
@@ -76,7 +76,7 @@ pub fn change(w: Work, base: &[u64], id: u64, kind: table::Kind) -> Work
 
 // Where `id` stands, `tracked` telling whether it is tracked.
 fn standing(conf: Configuration, tracked: bool, id: u64) -> table::Standing
-    ensures { result ≡ standsIn conf tracked id }
+    ensures { result ≡ stands_in conf tracked id }
 {
     table::standing_of(
         tracked,
@@ -90,7 +90,7 @@ fn standing(conf: Configuration, tracked: bool, id: u64) -> table::Standing
 // `id` comes to its new standing, and is logged as the table says; no room where 64 are tracked. A change that alters no set and logs nothing is
 // counted.
 fn moved(w: Work, id: u64, to: table::Move) -> Work
-    ensures { result ≡ movedIn id to w }
+    ensures { result ≡ moved_in id to w }
 {
     let n = w.tracked;
     let next = to.next;
@@ -134,7 +134,7 @@ fn moved(w: Work, id: u64, to: table::Move) -> Work
 }
 
 fn done(conf: Configuration, log: ChangeLog, tracked: usize, idle: usize) -> Work
-    ensures { result ≡ workIn conf log tracked idle }
+    ensures { result ≡ work_in conf log tracked idle }
 {
     Work {
         conf,
@@ -148,17 +148,17 @@ fn done(conf: Configuration, log: ChangeLog, tracked: usize, idle: usize) -> Wor
 
 // How many did nothing after an entry that logs nothing; `changed` tells whether a set changed.
 fn idle_after(n: usize, changed: bool) -> usize
-    ensures { result ≡ idleAfter changed n }
+    ensures { result ≡ idle_after changed n }
 {
     if changed {
         return n;
     }
-    one_more(n)
+    one_more_lem(n)
 }
 
 // One more, as far as a list can be long.
-fn one_more(n: usize) -> usize
-    ensures { result ≡ oneMore n }
+fn one_more_lem(n: usize) -> usize
+    ensures { result ≡ one_more n }
 {
     if n < MAX_CHANGES { n + 1 } else { n }
 }
@@ -171,7 +171,7 @@ fn less(n: usize) -> usize
 
 // `id` comes to the standing `to` in each set; no change touches outgoing.
 fn place(conf: Configuration, id: u64, to: table::Standing) -> Placed
-    ensures { result ≡ record { conf = place_in id to conf; changed = anyChangedIn id to conf } }
+    ensures { result ≡ record { conf = place_in id to conf; changed = any_changed_in id to conf } }
 {
     let outgoing = conf.outgoing;
     let auto_leave = conf.auto_leave;
@@ -209,7 +209,7 @@ fn any(a: bool, b: bool, c: bool) -> bool
 
 // The set with `id`, or without it.
 fn put(set: IdSet, id: u64, with: bool) -> Altered
-    ensures { result ≡ record { set = put_in with id set; changed = changedIn with id set } }
+    ensures { result ≡ record { set = put_in with id set; changed = changed_in with id set } }
 {
     if with {
         let grown = set.insert(id);
@@ -229,7 +229,7 @@ fn put(set: IdSet, id: u64, with: bool) -> Altered
 
 // The log with one entry more; a full log stays as it is.
 pub fn push(log: ChangeLog, id: u64, kind: MapChangeType) -> ChangeLog
-    ensures { result ≡ pushIn id kind log }
+    ensures { result ≡ push_in id kind log }
 {
     let n = log.count;
     if ChangeLog::CAPACITY <= n {

@@ -1,6 +1,6 @@
 // The table of standings: document 01, "What one change does to one id".
 ghost use Rattle.std.specs.Prelude.{◌≡◌, ◌<◌};
-ghost use Rattle.changes.specs.Table.{kindIn, move_of, placeNumber, columnNumber, voterRow, row_of, incomingAt, learnerAt, stagedAt};
+ghost use Rattle.changes.specs.Table.{kind_in, move_of, place_number, column_number, voter_row, row_of, incoming_at, learner_at, staged_at};
 
 // Where an id stands: untracked, tracked only, incoming, learner, outgoing, both voters, outgoing and staged.
 #[derive(Drop)]
@@ -103,7 +103,7 @@ pub fn next_move(from: Standing, kind: Kind) -> Move
 }
 
 fn row_number(s: Standing) -> usize
-    ensures value { result ≡ placeNumber s }
+    ensures value { result ≡ place_number s }
     ensures upper_bound { result < 7 }
 {
     match s {
@@ -118,7 +118,7 @@ fn row_number(s: Standing) -> usize
 }
 
 fn column_number(k: Kind) -> usize
-    ensures value { result ≡ columnNumber k }
+    ensures value { result ≡ column_number k }
     ensures upper_bound { result < 3 }
 {
     match k {
@@ -130,7 +130,7 @@ fn column_number(k: Kind) -> usize
 
 // 0 AddNode, 1 RemoveNode, 2 AddLearnerNode.
 pub fn kind_of(kind: u8) -> Kind
-    ensures { result ≡ kindIn kind }
+    ensures { result ≡ kind_in kind }
 {
     if kind == 0 {
         return Kind::AddNode;
@@ -168,7 +168,7 @@ pub fn standing_of(
 
 // An outgoing voter's standing.
 fn voter_of(incoming: bool, staged: bool) -> Standing
-    ensures { result ≡ voterRow incoming staged }
+    ensures { result ≡ voter_row incoming staged }
 {
     if incoming {
         return Standing::IO;
@@ -181,7 +181,7 @@ fn voter_of(incoming: bool, staged: bool) -> Standing
 
 // In which sets an id stands.
 pub fn is_incoming(s: Standing) -> bool
-    ensures { result ≡ incomingAt s }
+    ensures { result ≡ incoming_at s }
 {
     match s {
         Standing::I | Standing::IO => true,
@@ -190,7 +190,7 @@ pub fn is_incoming(s: Standing) -> bool
 }
 
 pub fn is_learner(s: Standing) -> bool
-    ensures { result ≡ learnerAt s }
+    ensures { result ≡ learner_at s }
 {
     match s {
         Standing::L => true,
@@ -199,7 +199,7 @@ pub fn is_learner(s: Standing) -> bool
 }
 
 pub fn is_staged(s: Standing) -> bool
-    ensures { result ≡ stagedAt s }
+    ensures { result ≡ staged_at s }
 {
     match s {
         Standing::OS => true,

@@ -5,12 +5,12 @@ use mathlib.Core.Bool.{Bool, true, false, cond, false≢true}
 use mathlib.Core.List.{List, [], ◌∷◌, ◌++◌}
 use native.Mathlib.Nat.{div-lt_iff_lt-mul, pow-suc}
 use native.Mathlib.Omega.{arith}
-use borrow.Author.Tests.{eq-eqb, ne_eqb, ltb-true}
+use borrow.Author.Tests.{eq-eqb, ne_eqb, ltb_true}
 use lib.Dec.{eqb, ltb}
-use lib.ListN.{length, length-append}
-use Rattle.rules.specs.Ids.{sameIds}
+use lib.ListN.{length, length_append}
+use Rattle.rules.specs.Ids.{same_ids}
 use Rattle.text.specs.Text.{digits, decimal, each}
-use Rattle.comparison.specs.Compare.{standingText}
+use Rattle.comparison.specs.Compare.{standing_text}
 use Rattle.comparison.specs.Told.{up_to, after, value, sets, find, called}
 use Rattle.comparison.specs.declared.line.Standing.{Standing}
 
@@ -21,10 +21,10 @@ unfoldable pub free : ℕ → List ℕ → Bool
 free c [] = true
 free c (b ∷ bs) = cond (eqb b c) false (free c bs)
 
-pub up-to : (c : ℕ) (w r : List ℕ) → free c w ≡ true → up_to c (w ++ (c ∷ r)) ≡ w
+pub up_to_lem : (c : ℕ) (w r : List ℕ) → free c w ≡ true → up_to c (w ++ (c ∷ r)) ≡ w
 unfolding up_to free
-up-to c [] r h = rw (eq-eqb c c refl)
-up-to c (b ∷ bs) r h = by (up-to c bs r) (eqb b c) h
+up_to_lem c [] r h = rw (eq-eqb c c refl)
+up_to_lem c (b ∷ bs) r h = by (up_to_lem c bs r) (eqb b c) h
   where
     by : (free c bs ≡ true → up_to c (bs ++ (c ∷ r)) ≡ bs) → (t : Bool) → cond t false (free c bs) ≡ true
         → cond t [] (b ∷ up_to c (bs ++ (c ∷ r))) ≡ b ∷ bs
@@ -58,13 +58,13 @@ digits-only zero n = tt
 digits-only (suc k) n = by (digits-only k (n / 10)) (ltb n 10) refl
   where
     by : Digits (digits k (n / 10)) → (t : Bool) → ltb n 10 ≡ t → Digits (cond t ((48 + n) ∷ []) (digits k (n / 10) ++ ((48 + n % 10) ∷ [])))
-    by r true t = ((omega arith, omega (arith, ltb-true n 10 t)), tt)
+    by r true t = ((omega arith, omega (arith, ltb_true n 10 t)), tt)
     by r false t = digits_append (digits k (n / 10)) ((48 + n % 10) ∷ []) r ((omega arith, omega arith), tt)
 
-digits-free : (c : ℕ) (xs : List ℕ) → c < 48 → Digits xs → free c xs ≡ true
+digits_free : (c : ℕ) (xs : List ℕ) → c < 48 → Digits xs → free c xs ≡ true
 unfolding free
-digits-free c [] h k = refl
-digits-free c (x ∷ xs) h k = rw (ne_eqb x c (λ e. omega (arith, k.0.0))) (digits-free c xs h k.1)
+digits_free c [] h k = refl
+digits_free c (x ∷ xs) h k = rw (ne_eqb x c (λ e. omega (arith, k.0.0))) (digits_free c xs h k.1)
 
 digits-some : (k n : ℕ) → 0 < length (digits (suc k) n)
 unfolding digits
@@ -72,12 +72,12 @@ digits-some k n = by (ltb n 10)
   where
     by : (t : Bool) → 0 < length (cond t ((48 + n) ∷ []) (digits k (n / 10) ++ ((48 + n % 10) ∷ [])))
     by true = omega arith
-    by false = omega (arith, length-append (digits k (n / 10)) ((48 + n % 10) ∷ []))
+    by false = omega (arith, length_append (digits k (n / 10)) ((48 + n % 10) ∷ []))
 
-value-append : (a : ℕ) (xs : List ℕ) (d : ℕ) → value a (xs ++ (d ∷ [])) ≡ value a xs * 10 + (d - 48)
+value_append : (a : ℕ) (xs : List ℕ) (d : ℕ) → value a (xs ++ (d ∷ [])) ≡ value a xs * 10 + (d - 48)
 unfolding value
-value-append a [] d = refl
-value-append a (x ∷ xs) d = value-append (a * 10 + (x - 48)) xs d
+value_append a [] d = refl
+value_append a (x ∷ xs) d = value_append (a * 10 + (x - 48)) xs d
 
 value-digits : (k n : ℕ) → n < 10 ^ k → value 0 (digits k n) ≡ n
 unfolding digits value
@@ -86,7 +86,7 @@ value-digits (suc k) n h = by (value-digits k (n / 10) ((div-lt_iff_lt-mul {k = 
   where
     by : value 0 (digits k (n / 10)) ≡ n / 10 → (t : Bool) → value 0 (cond t ((48 + n) ∷ []) (digits k (n / 10) ++ ((48 + n % 10) ∷ []))) ≡ n
     by r true = omega arith
-    by r false = value-append 0 (digits k (n / 10)) (48 + n % 10) ∙ omega (arith, r)
+    by r false = value_append 0 (digits k (n / 10)) (48 + n % 10) ∙ omega (arith, r)
 
 pub decimal-digits : (n : ℕ) → Digits (decimal n)
 unfolding decimal
@@ -98,7 +98,7 @@ decimal-some n = digits-some 19 n
 
 -- no space
 pub decimal-word : (n : ℕ) → free 32 (decimal n) ≡ true
-decimal-word n = digits-free 32 (decimal n) (omega arith) (decimal-digits n)
+decimal-word n = digits_free 32 (decimal n) (omega arith) (decimal-digits n)
 
 pub decimal-back : (n : ℕ) → n < 2 ^ 64 → value 0 (decimal n) ≡ n
 unfolding decimal
@@ -108,12 +108,12 @@ decimal-back n h = value-digits 20 n (omega arith)
 
 -- no space, no newline, and the standing is found by its text
 pub record Spelled (s : Standing) : Type 0 where
-  pub word : free 32 (standingText s) ≡ true
-  pub row : free 10 (standingText s) ≡ true
-  pub back : called (standingText s) ≡ s
+  pub word : free 32 (standing_text s) ≡ true
+  pub row : free 10 (standing_text s) ≡ true
+  pub back : called (standing_text s) ≡ s
 
 pub spelled : (s : Standing) → Spelled s
-unfolding free standingText each called find sameIds
+unfolding free standing_text each called find same_ids
 spelled s = by s.voters s.outgoing s.learners s.next
   where
     by : (a b c d : Bool) → Spelled (sets a b c d)

@@ -4,17 +4,17 @@ use mathlib.Core.Path.{◌≡◌, refl, ap, sym, subst, ◌∙◌}
 use mathlib.Core.Bool.{Bool, true, false, ◌||◌, not, cond}
 use mathlib.Core.List.{List, ◌++◌}
 use native.Mathlib.Omega.{arith}
-use borrow.Author.Tests.{leb-true, leb-false, lt-ltb, le-ltb, le-leb, eq-eqb, ne_eqb}
+use borrow.Author.Tests.{leb-true, leb-false, lt-ltb, le-ltb, le_leb, eq-eqb, ne_eqb}
 use lib.Dec.{eqb, ltb, leb}
 use lib.ListN.{length, drop}
 use Rattle.rules.specs.State.{ConfState}
-use Rattle.rules.specs.Message.{Answered, accepted, cut_short, malformed, too_many, read, numberRead, messageRead}
-use Rattle.rules.proofs.Refusals.{accepted-or-named}
+use Rattle.rules.specs.Message.{Answered, accepted, cut_short, malformed, too_many, read, number_read, message_read}
+use Rattle.rules.proofs.Refusals.{accepted_or_named}
 use Rattle.text.specs.Put.{Put, last}
 use Rattle.text.proofs.Laws.{put_count, put_whole}
-use Rattle.confstate.specs.Words.{messageIn}
-use Rattle.comparison.specs.Compare.{lines, lines_read, refusal, refusedText, comparison, compareAnswer, compareLeaves}
-use Rattle.comparison.specs.Told.{asSets}
+use Rattle.confstate.specs.Words.{message_in}
+use Rattle.comparison.specs.Compare.{lines, lines_read, refusal, refused_text, comparison, compare_answer, compare_leaves}
+use Rattle.comparison.specs.Told.{as_sets}
 use Rattle.comparison.specs.Steps.{Sorted, Ascending, SetsRead, BothRead}
 use Rattle.comparison.proofs.Meaning.{sets-sorted}
 use Rattle.comparison.proofs.Size.{lines-size}
@@ -42,14 +42,14 @@ module _ (readable : Bool) (l m : List ℕ) {x y : List ℕ} where
 
 -- the files' own refusals, or none
 module _ (readable : Bool) (l m : List ℕ) (h : not readable ≡ false) (j : length l ≤ 32768) (k : length m ≤ 32768) {n : ℕ} {x : List ℕ} (f : SetsRead l n x) where
-  numbers : refusal readable l m ≡ cond (eqb (numberRead (read l)) 0) (numberRead (read m)) (numberRead (read l))
+  numbers : refusal readable l m ≡ cond (eqb (number_read (read l)) 0) (number_read (read m)) (number_read (read l))
   unfolding refusal
   numbers = rw (h, le-ltb 32768 (length l) j, le-ltb 32768 (length m) k)
 
   pub first-refused : {y : List ℕ} → (n ≡ 0 → ⊥) → BothRead readable l m n x y
   first-refused z =
       record {
-        told = rw (numbers, ne_eqb (numberRead (read l)) 0 (λ i. z (f.told ∙ i))) f.told;
+        told = rw (numbers, ne_eqb (number_read (read l)) 0 (λ i. z (f.told ∙ i))) f.told;
         first-sets = λ i. absurd (z i);
         second-sets = λ i. absurd (z i);
       }
@@ -57,17 +57,17 @@ module _ (readable : Bool) (l m : List ℕ) (h : not readable ≡ false) (j : le
   pub both_read : n ≡ 0 → {p : ℕ} {y : List ℕ} → SetsRead m p y → BothRead readable l m p x y
   both_read z {p} {y} g =
       record {
-        told = rw (numbers, eq-eqb (numberRead (read l)) 0 (sym f.told ∙ z)) g.told;
+        told = rw (numbers, eq-eqb (number_read (read l)) 0 (sym f.told ∙ z)) g.told;
         first-sets = λ i. subst (λ (o : ℕ). SetsRead l o x) z f;
         second-sets = λ i. subst (λ (o : ℕ). SetsRead m o y) i g;
       }
 
 -- ** What both readings leave
 
-number-few : (l : List ℕ) → numberRead (read l) ≤ 30
-number-few l = by (accepted-or-named l)
+number-few : (l : List ℕ) → number_read (read l) ≤ 30
+number-few l = by (accepted_or_named l)
   where
-    by : Answered (numberRead (read l)) → numberRead (read l) ≤ 30
+    by : Answered (number_read (read l)) → number_read (read l) ≤ 30
     by (accepted h) = omega arith
     by (cut_short h) = omega arith
     by (malformed h) = omega arith
@@ -76,99 +76,99 @@ number-few l = by (accepted-or-named l)
 refusal-few : (readable : Bool) (l m : List ℕ) → refusal readable l m ≤ 32
 unfolding refusal
 refusal-few readable l m =
-    by (not readable || ltb 32768 (length l) || ltb 32768 (length m)) (eqb (numberRead (read l)) 0)
+    by (not readable || ltb 32768 (length l) || ltb 32768 (length m)) (eqb (number_read (read l)) 0)
   where
-    by : (a b : Bool) → cond a 32 (cond b (numberRead (read m)) (numberRead (read l))) ≤ 32
+    by : (a b : Bool) → cond a 32 (cond b (number_read (read m)) (number_read (read l))) ≤ 32
     by true b = omega arith
     by false true = omega (arith, number-few m)
     by false false = omega (arith, number-few l)
 
 ascends : {l ws : List ℕ} → SetsRead l 0 ws → Ascending ws
-ascends {l} f = record { lists = f.lists; sorted = subst Sorted (sym f.sets) (sets-sorted (messageRead (read l))) }
+ascends {l} f = record { lists = f.lists; sorted = subst Sorted (sym f.sets) (sets-sorted (message_read (read l))) }
 
 module _ {readable : Bool} {l m x y : List ℕ} {n : ℕ} (r : BothRead readable l m n x y) where
   pub number_small : n ≤ 32
   number_small = omega (arith, r.told, refusal-few readable l m)
 
-  pub compared-refused : (n ≡ 0 → ⊥) → comparison readable l m ≡ refusedText n
+  pub compared_refused : (n ≡ 0 → ⊥) → comparison readable l m ≡ refused_text n
   unfolding comparison
-  compared-refused h = rw (← r.told, ne_eqb n 0 h)
+  compared_refused h = rw (← r.told, ne_eqb n 0 h)
 
   module _ (z : n ≡ 0) where
-    both-accepted : refusal readable l m ≡ 0
-    both-accepted = sym r.told ∙ z
+    both_accepted : refusal readable l m ≡ 0
+    both_accepted = sym r.told ∙ z
 
-    pub both-ascend : Ascending x × Ascending y
-    both-ascend = (ascends (r.first-sets z), ascends (r.second-sets z))
+    pub both_ascend : Ascending x × Ascending y
+    both_ascend = (ascends (r.first-sets z), ascends (r.second-sets z))
 
-    lines_same : lines (messageIn x) (messageIn y) ≡ lines_read l m
+    lines_same : lines (message_in x) (message_in y) ≡ lines_read l m
     lines_same =
-        ap (λ (a : ConfState). lines a (messageIn y)) (r.first-sets z).sets
-        ∙ (ap (λ (a : ConfState). lines (asSets (messageRead (read l))) a) (r.second-sets z).sets ∙ lines-of-sets (messageRead (read l)) (messageRead (read m)))
+        ap (λ (a : ConfState). lines a (message_in y)) (r.first-sets z).sets
+        ∙ (ap (λ (a : ConfState). lines (as_sets (message_read (read l))) a) (r.second-sets z).sets ∙ lines-of-sets (message_read (read l)) (message_read (read m)))
 
-    pub compared-lines : comparison readable l m ≡ lines (messageIn x) (messageIn y)
+    pub compared_lines : comparison readable l m ≡ lines (message_in x) (message_in y)
     unfolding comparison
-    compared-lines = rw both-accepted (sym lines_same)
+    compared_lines = rw both_accepted (sym lines_same)
 
 -- ** Whether there is room
 
 module _ (a b : List ℕ) (f : Ascending a) (g : Ascending b) (room : ℕ) where
-  size : length (lines (messageIn a) (messageIn b)) ≤ 20761
-  size = lines-size (messageIn a) (messageIn b) f.lists.few g.lists.few
+  size : length (lines (message_in a) (message_in b)) ≤ 20761
+  size = lines-size (message_in a) (message_in b) f.lists.few g.lists.few
 
-  pub room_most : 20761 ≤ room → true ≡ leb (length (lines (messageIn a) (messageIn b))) room
-  room_most h = sym (le-leb (length (lines (messageIn a) (messageIn b))) room (omega (arith, size)))
+  pub room_most : 20761 ≤ room → true ≡ leb (length (lines (message_in a) (message_in b))) room
+  room_most h = sym (le_leb (length (lines (message_in a) (message_in b))) room (omega (arith, size)))
 
-  pub room-counted : {none new : List ℕ} {n : ℕ} → Put none 0 (lines (messageIn a) (messageIn b)) new n → leb n room ≡ leb (length (lines (messageIn a) (messageIn b))) room
+  pub room-counted : {none new : List ℕ} {n : ℕ} → Put none 0 (lines (message_in a) (message_in b)) new n → leb n room ≡ leb (length (lines (message_in a) (message_in b))) room
   room-counted h = ap (λ (k : ℕ). leb k room) (put_count h (omega (arith, size)))
 
-not-true : (b : Bool) → not b ≡ true → b ≡ false
-not-true true e = sym e
-not-true false e = refl
+not_true : (b : Bool) → not b ≡ true → b ≡ false
+not_true true e = sym e
+not_true false e = refl
 
-not-false : (b : Bool) → not b ≡ false → b ≡ true
-not-false true e = refl
-not-false false e = sym e
+not_false : (b : Bool) → not b ≡ false → b ≡ true
+not_false true e = refl
+not_false false e = sym e
 
 -- ** Two slices: a message that is refused; lines that do not fit; lines that fit
 
 module _ {l m x y : List ℕ} {n : ℕ} (r : BothRead true l m n x y) where
   module _ (h : n ≡ 0 → ⊥) where
-    pub answer-refused : (room : ℕ) → 4294967296 + n ≡ compareAnswer l m room
-    unfolding compareAnswer
+    pub answer-refused : (room : ℕ) → 4294967296 + n ≡ compare_answer l m room
+    unfolding compare_answer
     answer-refused room = rw (← r.told, ne_eqb n 0 h)
 
-    pub leaves-refused : (old : List ℕ) → old ≡ compareLeaves l m old
-    unfolding compareLeaves
+    pub leaves-refused : (old : List ℕ) → old ≡ compare_leaves l m old
+    unfolding compare_leaves
     leaves-refused old = rw (← r.told, ne_eqb n 0 h)
 
-  module _ (z : n ≡ 0) (old : List ℕ) {fits : Bool} (f : fits ≡ leb (length (lines (messageIn x) (messageIn y))) (length old)) where
+  module _ (z : n ≡ 0) (old : List ℕ) {fits : Bool} (f : fits ≡ leb (length (lines (message_in x) (message_in y))) (length old)) where
     fit : fits ≡ leb (length (lines_read l m)) (length old)
     fit = f ∙ ap (λ (t : List ℕ). leb (length t) (length old)) (lines_same r z)
 
     module _ (h : not fits ≡ true) where
       longer : length old < length (lines_read l m)
-      longer = leb-false (length (lines_read l m)) (length old) (sym fit ∙ not-true fits h)
+      longer = leb-false (length (lines_read l m)) (length old) (sym fit ∙ not_true fits h)
 
-      pub answer-none : 4294967396 ≡ compareAnswer l m (length old)
-      unfolding compareAnswer
-      answer-none = rw (both-accepted r z, lt-ltb (length old) (length (lines_read l m)) longer)
+      pub answer_none : 4294967396 ≡ compare_answer l m (length old)
+      unfolding compare_answer
+      answer_none = rw (both_accepted r z, lt-ltb (length old) (length (lines_read l m)) longer)
 
-      pub leaves_none : old ≡ compareLeaves l m old
-      unfolding compareLeaves
-      leaves_none = rw (both-accepted r z, lt-ltb (length old) (length (lines_read l m)) longer)
+      pub leaves_none : old ≡ compare_leaves l m old
+      unfolding compare_leaves
+      leaves_none = rw (both_accepted r z, lt-ltb (length old) (length (lines_read l m)) longer)
 
-    module _ (h : not fits ≡ false) (room : length old ≤ last) {out : List ℕ} {p : ℕ} (g : Put old 0 (lines (messageIn x) (messageIn y)) out p) where
+    module _ (h : not fits ≡ false) (room : length old ≤ last) {out : List ℕ} {p : ℕ} (g : Put old 0 (lines (message_in x) (message_in y)) out p) where
       within : length (lines_read l m) ≤ length old
-      within = leb-true (length (lines_read l m)) (length old) (sym fit ∙ not-false fits h)
+      within = leb-true (length (lines_read l m)) (length old) (sym fit ∙ not_false fits h)
 
       whole : (out ≡ lines_read l m ++ drop (length (lines_read l m)) old) × (p ≡ length (lines_read l m))
       whole = put_whole room (rw (lines_same r z) at g) within
 
-      pub answer-all : p ≡ compareAnswer l m (length old)
-      unfolding compareAnswer
-      answer-all = rw (both-accepted r z, le-ltb (length old) (length (lines_read l m)) within) whole.1
+      pub answer-all : p ≡ compare_answer l m (length old)
+      unfolding compare_answer
+      answer-all = rw (both_accepted r z, le-ltb (length old) (length (lines_read l m)) within) whole.1
 
-      pub leaves_all : out ≡ compareLeaves l m old
-      unfolding compareLeaves
-      leaves_all = rw (both-accepted r z, le-ltb (length old) (length (lines_read l m)) within) whole.0
+      pub leaves_all : out ≡ compare_leaves l m old
+      unfolding compare_leaves
+      leaves_all = rw (both_accepted r z, le-ltb (length old) (length (lines_read l m)) within) whole.0

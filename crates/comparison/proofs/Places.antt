@@ -4,65 +4,65 @@ use mathlib.Core.Path.{◌≡◌, refl, ap, sym, subst, ◌∙◌}
 use mathlib.Core.Bool.{Bool, true, false, ◌&&◌, cond, false≢true}
 use mathlib.Core.List.{List, [], ◌∷◌, ◌++◌}
 use native.Mathlib.Omega.{arith}
-use borrow.Author.Tests.{le-leb, lt-leb}
+use borrow.Author.Tests.{le_leb, lt-leb}
 use lib.Dec.{eqb, leb}
 use lib.ListN.{length, take, drop, get_or, length-drop}
 use lib.Seq.{take-take, get_or-drop, drop-drop}
 use Rattle.rules.specs.State.{ConfState}
 use Rattle.text.specs.Put.{Put, last}
-use Rattle.text.proofs.Laws.{Rest, rest_all, rest-length, rest_put, rest-none}
-use Rattle.idset.specs.Places.{firstIs}
-use Rattle.idset.proofs.Part.{part-cons, part_end}
-use Rattle.confstate.specs.Words.{listIn, messageIn}
-use Rattle.comparison.specs.Compare.{lineIf, idLines}
-use Rattle.comparison.specs.Steps.{Lists, Sorted, Ascending, begin, left_of, lesserOf, next_of, firstsOf, one_of, past_of, Within}
+use Rattle.text.proofs.Laws.{Rest, rest_all, rest-length, rest_put, rest_none}
+use Rattle.idset.specs.Places.{first_is}
+use Rattle.idset.proofs.Part.{part_cons, part_end}
+use Rattle.confstate.specs.Words.{list_in, message_in}
+use Rattle.comparison.specs.Compare.{line_if, id_lines}
+use Rattle.comparison.specs.Steps.{Lists, Sorted, Ascending, begin, left_of, lesser_of, next_of, firsts_of, one_of, past_of, Within}
 use Rattle.comparison.specs.declared.line.Standing.{Standing}
 use Rattle.comparison.specs.declared.walk.Places.{Places}
 use Rattle.comparison.specs.declared.walk.Found.{Found}
-use Rattle.comparison.proofs.Walking.{pastFirst, pastId, size, past-sorted, none_left, one_more, one-stands}
+use Rattle.comparison.proofs.Walking.{past_first, past_id, size, past-sorted, none_left, one_more_lem, one_stands}
 use Rattle.comparison.proofs.ListWords.{count-few}
 
 -- ** A list in its words
 
-module _ (ws : List ℕ) (k : ℕ) (h : k + 65 ≤ length ws) (f : length (listIn ws k) ≤ 64) where
+module _ (ws : List ℕ) (k : ℕ) (h : k + 65 ≤ length ws) (f : length (list_in ws k) ≤ 64) where
   -- its 64 places, as they are lent
-  list-part : take (get_or ws (k + 64) 0) (take (k + 64 - k) (drop k ws)) ≡ listIn ws k
-  unfolding listIn
-  list-part = take-take (get_or ws (k + 64) 0) (k + 64 - k) (drop k ws) (omega (arith, count-few ws k h f))
+  list_part : take (get_or ws (k + 64) 0) (take (k + 64 - k) (drop k ws)) ≡ list_in ws k
+  unfolding list_in
+  list_part = take-take (get_or ws (k + 64) 0) (k + 64 - k) (drop k ws) (omega (arith, count-few ws k h f))
 
-  pub stands-in : (at x : ℕ) {r : Bool} → r ≡ firstIs x (drop at (take (get_or ws (k + 64) 0) (take (k + 64 - k) (drop k ws)))) → r ≡ firstIs x (drop at (listIn ws k))
-  stands-in at x e = e ∙ ap (λ (l : List ℕ). firstIs x (drop at l)) list-part
+  pub stands_in_lem : (at x : ℕ) {r : Bool} → r ≡ first_is x (drop at (take (get_or ws (k + 64) 0) (take (k + 64 - k) (drop k ws)))) → r ≡ first_is x (drop at (list_in ws k))
+  stands_in_lem at x e = e ∙ ap (λ (l : List ℕ). first_is x (drop at l)) list_part
 
   module _ (at : ℕ) where
-    list-end : get_or ws (k + 64) 0 ≤ at → drop at (listIn ws k) ≡ []
-    unfolding listIn
-    list-end e = part_end (get_or ws (k + 64) 0) (drop k ws) at e
+    list_end : get_or ws (k + 64) 0 ≤ at → drop at (list_in ws k) ≡ []
+    unfolding list_in
+    list_end e = part_end (get_or ws (k + 64) 0) (drop k ws) at e
 
-    list-here : at < get_or ws (k + 64) 0 → drop at (listIn ws k) ≡ get_or ws (k + at) 0 ∷ drop (at + 1) (listIn ws k)
-    unfolding listIn
-    list-here e =
-        part-cons (get_or ws (k + 64) 0) (drop k ws) at e (omega (arith, count-few ws k h f, length-drop k ws))
+    list_here : at < get_or ws (k + 64) 0 → drop at (list_in ws k) ≡ get_or ws (k + at) 0 ∷ drop (at + 1) (list_in ws k)
+    unfolding list_in
+    list_here e =
+        part_cons (get_or ws (k + 64) 0) (drop k ws) at e (omega (arith, count-few ws k h f, length-drop k ws))
         ∙ ap (λ (x : ℕ). x ∷ drop (at + 1) (take (get_or ws (k + 64) 0) (drop k ws))) (get_or-drop k ws at 0)
 
     module _ (found : Found) where
-      pub lesser-end : get_or ws (k + 64) 0 ≤ at → found ≡ lesserOf (drop at (listIn ws k)) found
-      unfolding lesserOf
-      lesser-end e = sym (ap (λ (l : List ℕ). lesserOf l found) (list-end e))
+      pub lesser_end : get_or ws (k + 64) 0 ≤ at → found ≡ lesser_of (drop at (list_in ws k)) found
+      unfolding lesser_of
+      lesser_end e = sym (ap (λ (l : List ℕ). lesser_of l found) (list_end e))
 
       module _ (e : at < get_or ws (k + 64) 0) where
-        met : lesserOf (drop at (listIn ws k)) found
+        met : lesser_of (drop at (list_in ws k)) found
             ≡ cond (found.some && leb found.id (get_or ws (k + at) 0)) found (record { some = true; id = get_or ws (k + at) 0 })
-        unfolding lesserOf
-        met = ap (λ (l : List ℕ). lesserOf l found) (list-here e)
+        unfolding lesser_of
+        met = ap (λ (l : List ℕ). lesser_of l found) (list_here e)
 
-        pub lesser-kept : found.some ≡ true → found.id ≤ get_or ws (k + at) 0 → found ≡ lesserOf (drop at (listIn ws k)) found
-        lesser-kept s i = sym (met ∙ rw (s, le-leb found.id (get_or ws (k + at) 0) i))
+        pub lesser_kept : found.some ≡ true → found.id ≤ get_or ws (k + at) 0 → found ≡ lesser_of (drop at (list_in ws k)) found
+        lesser_kept s i = sym (met ∙ rw (s, le_leb found.id (get_or ws (k + at) 0) i))
 
-        pub lesser-less : found.some ≡ true → get_or ws (k + at) 0 < found.id → ◌≡◌ {A = Found} (record { some = true; id = get_or ws (k + at) 0 }) (lesserOf (drop at (listIn ws k)) found)
-        lesser-less s i = sym (met ∙ rw (s, lt-leb found.id (get_or ws (k + at) 0) i))
+        pub lesser_less : found.some ≡ true → get_or ws (k + at) 0 < found.id → ◌≡◌ {A = Found} (record { some = true; id = get_or ws (k + at) 0 }) (lesser_of (drop at (list_in ws k)) found)
+        lesser_less s i = sym (met ∙ rw (s, lt-leb found.id (get_or ws (k + at) 0) i))
 
-        pub lesser-first : found.some ≡ false → ◌≡◌ {A = Found} (record { some = true; id = get_or ws (k + at) 0 }) (lesserOf (drop at (listIn ws k)) found)
-        lesser-first s = sym (met ∙ rw s)
+        pub lesser_first : found.some ≡ false → ◌≡◌ {A = Found} (record { some = true; id = get_or ws (k + at) 0 }) (lesser_of (drop at (list_in ws k)) found)
+        lesser_first s = sym (met ∙ rw s)
 
 -- ** Past an id
 
@@ -70,8 +70,8 @@ pub one-few : (b : Bool) → one_of b ≤ 1
 one-few true = omega arith
 one-few false = omega arith
 
-drop-first : (x : ℕ) (l : List ℕ) → drop (one_of (firstIs x l)) l ≡ pastFirst x l
-unfolding firstIs pastFirst
+drop-first : (x : ℕ) (l : List ℕ) → drop (one_of (first_is x l)) l ≡ past_first x l
+unfolding first_is past_first
 drop-first x [] = refl
 drop-first x (y ∷ ys) = by (eqb y x)
   where
@@ -79,54 +79,54 @@ drop-first x (y ∷ ys) = by (eqb y x)
     by true = refl
     by false = refl
 
-drop_past : (x k : ℕ) (l : List ℕ) → drop (k + one_of (firstIs x (drop k l))) l ≡ pastFirst x (drop k l)
-drop_past x k l = sym (drop-drop (one_of (firstIs x (drop k l))) k l) ∙ drop-first x (drop k l)
+drop_past : (x k : ℕ) (l : List ℕ) → drop (k + one_of (first_is x (drop k l))) l ≡ past_first x (drop k l)
+drop_past x k l = sym (drop-drop (one_of (first_is x (drop k l))) k l) ∙ drop-first x (drop k l)
 
 -- where x stands at k, that is before the list's end
-first-within : (x k : ℕ) (l : List ℕ) → k ≤ 64 → length l ≤ 64 → k + one_of (firstIs x (drop k l)) ≤ 64
-unfolding firstIs
-first-within x k l h f = by (firstIs x (drop k l)) refl
+first-within : (x k : ℕ) (l : List ℕ) → k ≤ 64 → length l ≤ 64 → k + one_of (first_is x (drop k l)) ≤ 64
+unfolding first_is
+first-within x k l h f = by (first_is x (drop k l)) refl
   where
-    by : (b : Bool) → firstIs x (drop k l) ≡ b → k + one_of b ≤ 64
+    by : (b : Bool) → first_is x (drop k l) ≡ b → k + one_of b ≤ 64
     by true e = into (drop k l) refl e
       where
-        into : (m : List ℕ) → drop k l ≡ m → firstIs x m ≡ true → k + 1 ≤ 64
+        into : (m : List ℕ) → drop k l ≡ m → first_is x m ≡ true → k + 1 ≤ 64
         into [] g e = absurd (false≢true e)
         into (y ∷ ys) g e = omega (arith, ap length g, length-drop k l)
     by false e = omega arith
 
 -- ** What is left of a message
 
-left-all : (ws : List ℕ) → left_of ws begin ≡ messageIn ws
+left-all : (ws : List ℕ) → left_of ws begin ≡ message_in ws
 unfolding left_of
 left-all ws = refl
 
-left-past : (ws : List ℕ) (p : Places) (x : ℕ) → left_of ws (past_of p (firstsOf (left_of ws p) x)) ≡ pastId x (left_of ws p)
-unfolding left_of past_of firstsOf pastId
+left-past : (ws : List ℕ) (p : Places) (x : ℕ) → left_of ws (past_of p (firsts_of (left_of ws p) x)) ≡ past_id x (left_of ws p)
+unfolding left_of past_of firsts_of past_id
 left-past ws p x =
     λ i. record {
-      voters = drop_past x p.voters (messageIn ws).voters i;
-      learners = drop_past x p.learners (messageIn ws).learners i;
-      votersOutgoing = drop_past x p.outgoing (messageIn ws).votersOutgoing i;
-      learnersNext = drop_past x p.next (messageIn ws).learnersNext i;
-      autoLeave = (messageIn ws).autoLeave;
+      voters = drop_past x p.voters (message_in ws).voters i;
+      learners = drop_past x p.learners (message_in ws).learners i;
+      voters_outgoing = drop_past x p.outgoing (message_in ws).voters_outgoing i;
+      learners_next = drop_past x p.next (message_in ws).learners_next i;
+      auto_leave = (message_in ws).auto_leave;
     }
 
-past-within : (ws : List ℕ) (p : Places) (x : ℕ) → Lists ws → Within p → Within (past_of p (firstsOf (left_of ws p) x))
-unfolding left_of past_of firstsOf
+past-within : (ws : List ℕ) (p : Places) (x : ℕ) → Lists ws → Within p → Within (past_of p (firsts_of (left_of ws p) x))
+unfolding left_of past_of firsts_of
 past-within ws p x l w =
     record {
-      voters = first-within x p.voters (messageIn ws).voters w.voters l.few.voters;
-      outgoing = first-within x p.outgoing (messageIn ws).votersOutgoing w.outgoing l.few.votersOutgoing;
-      learners = first-within x p.learners (messageIn ws).learners w.learners l.few.learners;
-      next = first-within x p.next (messageIn ws).learnersNext w.next l.few.learnersNext;
+      voters = first-within x p.voters (message_in ws).voters w.voters l.few.voters;
+      outgoing = first-within x p.outgoing (message_in ws).voters_outgoing w.outgoing l.few.voters_outgoing;
+      learners = first-within x p.learners (message_in ws).learners w.learners l.few.learners;
+      next = first-within x p.next (message_in ws).learners_next w.next l.few.learners_next;
     }
 
 -- ** The loop over the ids
 
 -- the lines of what is left from i and j on are all that is left to put
 pub record Walked (a b old : List ℕ) (at : ℕ) (out : List ℕ) (end : ℕ) (i j : Places) (next : Found) : Type 0 where
-  pub lines : Rest old at (idLines (messageIn a) (messageIn b)) out end (idLines (left_of a i) (left_of b j))
+  pub lines : Rest old at (id_lines (message_in a) (message_in b)) out end (id_lines (left_of a i) (left_of b j))
   pub first : Sorted (left_of a i)
   pub second : Sorted (left_of b j)
   pub first-place : Within i
@@ -142,11 +142,11 @@ begin-within = record { voters = omega arith; outgoing = omega arith; learners =
 
 pub walk_start : {a b old : List ℕ} {at : ℕ} {i j : Places} {next : Found} → length old ≤ last → at ≤ last → Ascending a → Ascending b → i ≡ begin → j ≡ begin → next ≡ next_of (left_of a i) (left_of b j) → Walked a b old at old at i j next
 walk_start {a} {b} {old} {at} {i} {j} h k f g p q e =
-    let u : left_of a i ≡ messageIn a = ap (left_of a) p ∙ left-all a in
-    let v : left_of b j ≡ messageIn b = ap (left_of b) q ∙ left-all b in
+    let u : left_of a i ≡ message_in a = ap (left_of a) p ∙ left-all a in
+    let v : left_of b j ≡ message_in b = ap (left_of b) q ∙ left-all b in
     record {
-      lines = subst (λ (m : ConfState). Rest old at (idLines (messageIn a) (messageIn b)) old at (idLines m (left_of b j))) (sym u)
-          (subst (λ (m : ConfState). Rest old at (idLines (messageIn a) (messageIn b)) old at (idLines (messageIn a) m)) (sym v) (rest_all h k));
+      lines = subst (λ (m : ConfState). Rest old at (id_lines (message_in a) (message_in b)) old at (id_lines m (left_of b j))) (sym u)
+          (subst (λ (m : ConfState). Rest old at (id_lines (message_in a) (message_in b)) old at (id_lines (message_in a) m)) (sym v) (rest_all h k));
       first = subst Sorted (sym u) f.sorted;
       second = subst Sorted (sym v) g.sorted;
       first-place = subst Within (sym p) begin-within;
@@ -155,38 +155,38 @@ walk_start {a} {b} {old} {at} {i} {j} h k f g p q e =
     }
 
 module _ {a b old : List ℕ} {at : ℕ} {out : List ℕ} {end : ℕ} {i j : Places} {next : Found} (w : Walked a b old at out end i j next) where
-  pub walk-length : length out ≡ length old
-  walk-length = rest-length w.lines
+  pub walk_length : length out ≡ length old
+  walk_length = rest-length w.lines
 
-  pub walk_end : next.some ≡ false → Put old at (idLines (messageIn a) (messageIn b)) out end
+  pub walk_end : next.some ≡ false → Put old at (id_lines (message_in a) (message_in b)) out end
   walk_end h =
       let none : (next_of (left_of a i) (left_of b j)).some ≡ false = sym (ap (λ (f : Found). f.some) w.met) ∙ h in
-      rest-none (subst (Rest old at (idLines (messageIn a) (messageIn b)) out end) (none_left (left_of a i) (left_of b j) none) w.lines)
+      rest_none (subst (Rest old at (id_lines (message_in a) (message_in b)) out end) (none_left (left_of a i) (left_of b j) none) w.lines)
 
   -- the id that was met stands in these sets, and the walk goes past it
-  module _ (some : next.some ≡ true) {s t : Standing} (f : s ≡ firstsOf (left_of a i) next.id) (g : t ≡ firstsOf (left_of b j) next.id) {k l : Places} (p : k ≡ past_of i s) (q : l ≡ past_of j t) where
+  module _ (some : next.some ≡ true) {s t : Standing} (f : s ≡ firsts_of (left_of a i) next.id) (g : t ≡ firsts_of (left_of b j) next.id) {k l : Places} (p : k ≡ past_of i s) (q : l ≡ past_of j t) where
     met_some : (next_of (left_of a i) (left_of b j)).some ≡ true
     met_some = sym (ap (λ (m : Found). m.some) w.met) ∙ some
 
-    met-id : next.id ≡ (next_of (left_of a i) (left_of b j)).id
-    met-id = ap (λ (m : Found). m.id) w.met
+    met_id : next.id ≡ (next_of (left_of a i) (left_of b j)).id
+    met_id = ap (λ (m : Found). m.id) w.met
 
-    first-left : left_of a k ≡ pastId next.id (left_of a i)
+    first-left : left_of a k ≡ past_id next.id (left_of a i)
     first-left = ap (left_of a) (p ∙ ap (past_of i) f) ∙ left-past a i next.id
 
-    second-left : left_of b l ≡ pastId next.id (left_of b j)
+    second-left : left_of b l ≡ past_id next.id (left_of b j)
     second-left = ap (left_of b) (q ∙ ap (past_of j) g) ∙ left-past b j next.id
 
-    pub walk-less : left a b k l < left a b i j
-    walk-less = rw (first-left, second-left, met-id) (one-stands (left_of a i) (left_of b j) met_some)
+    pub walk_less : left a b k l < left a b i j
+    walk_less = rw (first-left, second-left, met_id) (one_stands (left_of a i) (left_of b j) met_some)
 
-    more : idLines (left_of a i) (left_of b j) ≡ lineIf next.id s t ++ idLines (left_of a k) (left_of b l)
-    more = rw (first-left, second-left, f, g, met-id) (one_more (left_of a i) (left_of b j) w.first w.second met_some)
+    more : id_lines (left_of a i) (left_of b j) ≡ line_if next.id s t ++ id_lines (left_of a k) (left_of b l)
+    more = rw (first-left, second-left, f, g, met_id) (one_more_lem (left_of a i) (left_of b j) w.first w.second met_some)
 
-    pub walk_turn : Lists a → Lists b → {new : List ℕ} {r : ℕ} {after : Found} → Put out end (lineIf next.id s t) new r → after ≡ next_of (left_of a k) (left_of b l) → Walked a b old at new r k l after
+    pub walk_turn : Lists a → Lists b → {new : List ℕ} {r : ℕ} {after : Found} → Put out end (line_if next.id s t) new r → after ≡ next_of (left_of a k) (left_of b l) → Walked a b old at new r k l after
     walk_turn x y h e =
         record {
-          lines = rest_put (subst (Rest old at (idLines (messageIn a) (messageIn b)) out end) more w.lines) h;
+          lines = rest_put (subst (Rest old at (id_lines (message_in a) (message_in b)) out end) more w.lines) h;
           first = subst Sorted (sym first-left) (past-sorted next.id (left_of a i) w.first);
           second = subst Sorted (sym second-left) (past-sorted next.id (left_of b j) w.second);
           first-place = subst Within (sym (p ∙ ap (past_of i) f)) (past-within a i next.id x w.first-place);

@@ -1,16 +1,16 @@
 -- The definitions tried on small messages: each line rules out a program that does otherwise. Assumes nothing.
 use Rattle.std.specs.Prelude.{ℕ, ◌+◌, ◌^◌, ◌≡◌, refl, Bool, true, false, List, [], ◌∷◌, ◌++◌, replicate}
-use Rattle.rules.specs.Ids.{memb, insertId, insertAll, removeId, sameIds}
+use Rattle.rules.specs.Ids.{memb, insert_id, insert_all, remove_id, same_ids}
 use Rattle.rules.specs.State.{ConfState}
-use Rattle.rules.specs.Wire.{front, fits, varintIn, payloadIn, fieldIn, row_of, row}
-use Rattle.rules.specs.Message.{fronts, gathered, packed, entered, readRow, read}
+use Rattle.rules.specs.Wire.{front, fits, varint_in, payload_in, field_in, row_of, row}
+use Rattle.rules.specs.Message.{fronts, gathered, packed, entered, read_row, read}
 use Rattle.text.specs.Text.{digits, decimal, each, ascii}
-use Rattle.comparison.specs.Compare.{standing, standingText, line, lineIf, idsOfBoth, flagLine, lines, refusal, refusedText, comparison, compareAnswer, compareLeaves}
-use Rattle.comparison.specs.Told.{up_to, after, value, find, called, readLines, told, asSets, noted, second}
+use Rattle.comparison.specs.Compare.{standing, standing_text, line, line_if, ids_of_both, flag_line, lines, refusal, refused_text, comparison, compare_answer, compare_leaves}
+use Rattle.comparison.specs.Told.{up_to, after, value, find, called, read_lines, told, as_sets, noted, second}
 
 abbrev message : List ℕ → List ℕ → List ℕ → List ℕ → Bool → ConfState
 message voters outgoing learners next flag =
-    record { voters = voters; learners = learners; votersOutgoing = outgoing; learnersNext = next; autoLeave = flag }
+    record { voters = voters; learners = learners; voters_outgoing = outgoing; learners_next = next; auto_leave = flag }
 
 -- ** Lines
 
@@ -25,10 +25,10 @@ abbrev paper-lines : List ℕ
 paper-lines = ascii "2 voters -> learners\n3 none -> voters\nauto_leave false -> true\n"
 
 pub paper : lines paper-first paper-second ≡ paper-lines
-unfolding lines lineIf line idsOfBoth insertAll insertId standing standingText memb flagLine each decimal digits
+unfolding lines line_if line ids_of_both insert_all insert_id standing standing_text memb flag_line each decimal digits
 paper = refl
 
-pub other-lines :
+pub other_lines :
     -- a reader that goes by order or counts repeats: "each list taken as a set"
     (lines (message (2 ∷ 1 ∷ 2 ∷ []) [] [] [] true) (message (1 ∷ 2 ∷ []) [] [] [] true) ≡ [])
     -- one that takes 0 for no id; that has the ids as they come
@@ -38,13 +38,13 @@ pub other-lines :
     ≡ ascii "7 voters+voters_outgoing+learners+learners_next -> voters_outgoing+learners_next\n")
     -- one that compares the first set only
     × (lines (message (7 ∷ []) [] [] [] false) (message (7 ∷ []) [] (7 ∷ []) [] false) ≡ ascii "7 voters -> voters+learners\n")
-unfolding lines lineIf line idsOfBoth insertAll insertId standing standingText memb flagLine each decimal digits
-other-lines = (refl, refl, refl, refl)
+unfolding lines line_if line ids_of_both insert_all insert_id standing standing_text memb flag_line each decimal digits
+other_lines = (refl, refl, refl, refl)
 
 -- ** The reader of the lines
 
 pub paper-told : second paper-first paper-lines ≡ paper-second
-unfolding second told readLines called find sameIds standingText up_to after value noted asSets insertAll insertId removeId each
+unfolding second told read_lines called find same_ids standing_text up_to after value noted as_sets insert_all insert_id remove_id each
 paper-told = refl
 
 -- ** Two files
@@ -72,7 +72,7 @@ pub files :
     × (comparison true no_field cut_short ≡ ascii "refused 29\n")
     -- one that tells a fault inside a file before 32
     × (comparison false cut_short no_field ≡ ascii "refused 32\n")
-unfolding comparison refusal refusedText lines lineIf line idsOfBoth insertAll insertId standing memb flagLine each decimal digits read readRow row row_of fieldIn payloadIn varintIn front fits entered packed fronts gathered
+unfolding comparison refusal refused_text lines line_if line ids_of_both insert_all insert_id standing memb flag_line each decimal digits read read_row row row_of field_in payload_in varint_in front fits entered packed fronts gathered
 files = (refl, refl, refl, refl, refl)
 
 pub long-files :
@@ -86,13 +86,13 @@ long-files = (refl, refl)
 
 pub answered :
     -- `compare` that refuses an exact fit; that clears the bytes after the lines
-    (compareAnswer one [] 17 ≡ 17)
-    × (compareLeaves one [] (replicate 18 5) ≡ ascii "1 voters -> none\n" ++ (5 ∷ []))
+    (compare_answer one [] 17 ≡ 17)
+    × (compare_leaves one [] (replicate 18 5) ≡ ascii "1 voters -> none\n" ++ (5 ∷ []))
     -- that writes as much as fits
-    × (compareAnswer one [] 16 ≡ 2 ^ 32 + 100)
-    × (compareLeaves one [] (replicate 16 5) ≡ replicate 16 5)
+    × (compare_answer one [] 16 ≡ 2 ^ 32 + 100)
+    × (compare_leaves one [] (replicate 16 5) ≡ replicate 16 5)
     -- that writes `refused N`; that asks for room first
-    × (compareAnswer one cut_short 0 ≡ 2 ^ 32 + 28)
-    × (compareLeaves one cut_short (replicate 18 5) ≡ replicate 18 5)
-unfolding compareAnswer compareLeaves refusal lines lineIf line idsOfBoth insertAll insertId standing standingText memb flagLine each decimal digits read readRow row row_of fieldIn payloadIn varintIn front fits entered packed fronts gathered
+    × (compare_answer one cut_short 0 ≡ 2 ^ 32 + 28)
+    × (compare_leaves one cut_short (replicate 18 5) ≡ replicate 18 5)
+unfolding compare_answer compare_leaves refusal lines line_if line ids_of_both insert_all insert_id standing standing_text memb flag_line each decimal digits read read_row row row_of field_in payload_in varint_in front fits entered packed fronts gathered
 answered = (refl, refl, refl, refl, refl, refl)

@@ -2,12 +2,12 @@
 use Rattle.std.specs.Prelude.{ℕ, ◌+◌, ◌≤◌, ◌≡◌, Bool, true, false, ◌&&◌, cond, List, [], ◌∷◌, ◌++◌, leb, length, take, drop}
 use Rattle.rules.specs.Ids.{ascending}
 use Rattle.rules.specs.State.{ConfState}
-use Rattle.rules.specs.Message.{Few64, read, numberRead, messageRead}
+use Rattle.rules.specs.Message.{Few64, read, number_read, message_read}
 use Rattle.text.specs.Text.{ascii}
-use Rattle.idset.specs.Places.{firstIs}
-use Rattle.confstate.specs.Words.{messageIn}
+use Rattle.idset.specs.Places.{first_is}
+use Rattle.confstate.specs.Words.{message_in}
 use Rattle.comparison.specs.Compare.{refusal}
-use Rattle.comparison.specs.Told.{asSets}
+use Rattle.comparison.specs.Told.{as_sets}
 use Rattle.comparison.specs.declared.line.Standing.{Standing}
 use Rattle.comparison.specs.declared.walk.Places.{Places}
 use Rattle.comparison.specs.declared.walk.Found.{Found}
@@ -17,18 +17,18 @@ use Rattle.comparison.specs.declared.walk.Found.{Found}
 -- 261 words, with at most 64 ids in each list
 pub record Lists (ws : List ℕ) : Type 0 where
   pub long : length ws ≡ 261
-  pub few : Few64 (messageIn ws)
+  pub few : Few64 (message_in ws)
 
 -- and each list ascends
 pub record Sorted (m : ConfState) : Type 0 where
   pub voters : ascending m.voters ≡ true
   pub learners : ascending m.learners ≡ true
-  pub votersOutgoing : ascending m.votersOutgoing ≡ true
-  pub learnersNext : ascending m.learnersNext ≡ true
+  pub voters_outgoing : ascending m.voters_outgoing ≡ true
+  pub learners_next : ascending m.learners_next ≡ true
 
 pub record Ascending (ws : List ℕ) : Type 0 where
   pub lists : Lists ws
-  pub sorted : Sorted (messageIn ws)
+  pub sorted : Sorted (message_in ws)
 
 -- of places that were `old`, of which n were used, the first r are now the list xs; those after the one that may have been added are as they were
 pub record Placed (old : List ℕ) (n : ℕ) (new : List ℕ) (r : ℕ) (xs : List ℕ) : Type 0 where
@@ -41,9 +41,9 @@ pub record Placed (old : List ℕ) (n : ℕ) (new : List ℕ) (r : ℕ) (xs : Li
 
 -- a message read into words: its number, and each list as a set, of a refused one empty
 pub record SetsRead (l : List ℕ) (number : ℕ) (ws : List ℕ) : Type 0 where
-  pub told : number ≡ numberRead (read l)
+  pub told : number ≡ number_read (read l)
   pub lists : Lists ws
-  pub sets : messageIn ws ≡ asSets (messageRead (read l))
+  pub sets : message_in ws ≡ as_sets (message_read (read l))
 
 -- both files; where neither is refused the words are their messages
 pub record BothRead (readable : Bool) (l m : List ℕ) (number : ℕ) (first second : List ℕ) : Type 0 where
@@ -60,32 +60,32 @@ begin = record { voters = 0; outgoing = 0; learners = 0; next = 0 }
 unfoldable pub left_of : List ℕ → Places → ConfState
 left_of ws p =
     record {
-      voters = drop p.voters (messageIn ws).voters;
-      learners = drop p.learners (messageIn ws).learners;
-      votersOutgoing = drop p.outgoing (messageIn ws).votersOutgoing;
-      learnersNext = drop p.next (messageIn ws).learnersNext;
-      autoLeave = (messageIn ws).autoLeave;
+      voters = drop p.voters (message_in ws).voters;
+      learners = drop p.learners (message_in ws).learners;
+      voters_outgoing = drop p.outgoing (message_in ws).voters_outgoing;
+      learners_next = drop p.next (message_in ws).learners_next;
+      auto_leave = (message_in ws).auto_leave;
     }
 
 -- what was found, or the first of a list where that is less
-unfoldable pub lesserOf : List ℕ → Found → Found
-lesserOf [] f = f
-lesserOf (x ∷ xs) f = cond (f.some && leb f.id x) f (record { some = true; id = x })
+unfoldable pub lesser_of : List ℕ → Found → Found
+lesser_of [] f = f
+lesser_of (x ∷ xs) f = cond (f.some && leb f.id x) f (record { some = true; id = x })
 
-abbrev pub leastOf : ConfState → Found → Found
-leastOf m f = lesserOf m.learnersNext (lesserOf m.learners (lesserOf m.votersOutgoing (lesserOf m.voters f)))
+abbrev pub least_of : ConfState → Found → Found
+least_of m f = lesser_of m.learners_next (lesser_of m.learners (lesser_of m.voters_outgoing (lesser_of m.voters f)))
 
 unfoldable pub next_of : ConfState → ConfState → Found
-next_of a b = leastOf b (leastOf a (record { some = false; id = 0 }))
+next_of a b = least_of b (least_of a (record { some = false; id = 0 }))
 
 -- the lists that begin with x
-unfoldable pub firstsOf : ConfState → ℕ → Standing
-firstsOf m x =
+unfoldable pub firsts_of : ConfState → ℕ → Standing
+firsts_of m x =
     record {
-      voters = firstIs x m.voters;
-      outgoing = firstIs x m.votersOutgoing;
-      learners = firstIs x m.learners;
-      next = firstIs x m.learnersNext;
+      voters = first_is x m.voters;
+      outgoing = first_is x m.voters_outgoing;
+      learners = first_is x m.learners;
+      next = first_is x m.learners_next;
     }
 
 abbrev pub one_of : Bool → ℕ
@@ -110,5 +110,5 @@ pub record Within (p : Places) : Type 0 where
 -- ** Names
 
 -- a set's name where the id is in the set, after a `+` where a name stands before it
-unfoldable pub nameText : Bool → Bool → List ℕ → List ℕ
-nameText is-in later name = cond is-in (cond later (ascii "+") [] ++ name) []
+unfoldable pub name_text : Bool → Bool → List ℕ → List ℕ
+name_text is-in later name = cond is-in (cond later (ascii "+") [] ++ name) []

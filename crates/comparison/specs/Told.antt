@@ -1,8 +1,8 @@
 -- A reader of the lines: with the first message it states the second's sets and flag. Document 02, l). Assumes nothing.
 use Rattle.std.specs.Prelude.{ℕ, zero, suc, ◌+◌, ◌-◌, ◌*◌, Bool, true, false, not, cond, List, [], ◌∷◌, eqb, length}
-use Rattle.rules.specs.Ids.{insertId, insertAll, removeId, sameIds}
+use Rattle.rules.specs.Ids.{insert_id, insert_all, remove_id, same_ids}
 use Rattle.rules.specs.State.{ConfState}
-use Rattle.comparison.specs.Compare.{standingText}
+use Rattle.comparison.specs.Compare.{standing_text}
 use Rattle.comparison.specs.declared.line.Standing.{Standing}
 
 -- ** Bytes
@@ -37,7 +37,7 @@ standings =
 -- the first of them whose text is w
 unfoldable pub find : List Standing → List ℕ → Standing
 find [] w = sets false false false false
-find (s ∷ ss) w = cond (sameIds (standingText s) w) s (find ss w)
+find (s ∷ ss) w = cond (same_ids (standing_text s) w) s (find ss w)
 
 unfoldable pub called : List ℕ → Standing
 called w = find standings w
@@ -55,37 +55,37 @@ pub record Told : Type 0 where
   pub flips : Bool
 
 -- At most k lines. One that begins with `a` is the flag's, and the last. Of another the first word is the id, and the fourth, after `->`, the standing.
-unfoldable pub readLines : ℕ → List ℕ → Told
-readLines zero l = record { notes = []; flips = false }
-readLines (suc k) [] = record { notes = []; flips = false }
-readLines (suc k) (b ∷ bs) =
+unfoldable pub read_lines : ℕ → List ℕ → Told
+read_lines zero l = record { notes = []; flips = false }
+read_lines (suc k) [] = record { notes = []; flips = false }
+read_lines (suc k) (b ∷ bs) =
     let l : List ℕ = b ∷ bs in
     let fourth : List ℕ = after 32 (after 32 (after 32 l)) in
-    let rest : Told = readLines k (after 10 fourth) in
+    let rest : Told = read_lines k (after 10 fourth) in
     cond (eqb b 97) (record { notes = []; flips = true })
     (record { notes = record { id = value 0 (up_to 32 l); now = called (up_to 10 fourth) } ∷ rest.notes; flips = rest.flips })
 
 -- no line is without a byte
 unfoldable pub told : List ℕ → Told
-told l = readLines (length l) l
+told l = read_lines (length l) l
 
 -- ** The second message
 
 -- a message with each list as a set: ascending, each id once
-unfoldable pub asSets : ConfState → ConfState
-asSets m =
+unfoldable pub as_sets : ConfState → ConfState
+as_sets m =
     record {
-      voters = insertAll m.voters [];
-      learners = insertAll m.learners [];
-      votersOutgoing = insertAll m.votersOutgoing [];
-      learnersNext = insertAll m.learnersNext [];
-      autoLeave = m.autoLeave;
+      voters = insert_all m.voters [];
+      learners = insert_all m.learners [];
+      voters_outgoing = insert_all m.voters_outgoing [];
+      learners_next = insert_all m.learners_next [];
+      auto_leave = m.auto_leave;
     }
 
 -- x is to be in the set, or not
 abbrev pub moved : Bool → ℕ → List ℕ → List ℕ
-moved true x xs = insertId x xs
-moved false x xs = removeId x xs
+moved true x xs = insert_id x xs
+moved false x xs = remove_id x xs
 
 -- the sets with one id moved to where the note says
 abbrev pub placed : Note → ConfState → ConfState
@@ -93,9 +93,9 @@ placed n m =
     record {
       voters = moved n.now.voters n.id m.voters;
       learners = moved n.now.learners n.id m.learners;
-      votersOutgoing = moved n.now.outgoing n.id m.votersOutgoing;
-      learnersNext = moved n.now.next n.id m.learnersNext;
-      autoLeave = m.autoLeave;
+      voters_outgoing = moved n.now.outgoing n.id m.voters_outgoing;
+      learners_next = moved n.now.next n.id m.learners_next;
+      auto_leave = m.auto_leave;
     }
 
 unfoldable pub noted : List Note → ConfState → ConfState
@@ -108,11 +108,11 @@ turned flips m =
     record {
       voters = m.voters;
       learners = m.learners;
-      votersOutgoing = m.votersOutgoing;
-      learnersNext = m.learnersNext;
-      autoLeave = cond flips (not m.autoLeave) m.autoLeave;
+      voters_outgoing = m.voters_outgoing;
+      learners_next = m.learners_next;
+      auto_leave = cond flips (not m.auto_leave) m.auto_leave;
     }
 
 -- "a reader of the lines with the first message can state the second's sets exactly"
 unfoldable pub second : ConfState → List ℕ → ConfState
-second first text = turned (told text).flips (noted (told text).notes (asSets first))
+second first text = turned (told text).flips (noted (told text).notes (as_sets first))

@@ -2,8 +2,8 @@
 // and one for the flag. The text is put into a lent slice, as far as it goes there, and counted to its end.
 ghost use Rattle.std.specs.Prelude.{◌≡◌, leb, length};
 ghost use Rattle.text.specs.Put.{Put};
-ghost use Rattle.confstate.specs.Words.{messageIn};
-ghost use Rattle.comparison.specs.Compare.{idLines, lines, refusedText, comparison, compareAnswer, compareLeaves};
+ghost use Rattle.confstate.specs.Words.{message_in};
+ghost use Rattle.comparison.specs.Compare.{id_lines, lines, refused_text, comparison, compare_answer, compare_leaves};
 ghost use Rattle.comparison.specs.Steps.{Ascending, SetsRead, BothRead};
 
 mod sets; // lists put in order
@@ -47,7 +47,7 @@ pub fn put_comparison(
 // The lines of two messages to the front of `out`, every byte after them kept; their length comes back. 2^32 and 32 for a slice over 32 KiB, or 28, 29 or
 // 30 of the first, then of the second; 2^32 + 100 for lines longer than `out`; it is then as it was.
 pub fn compare(first: &[u8], second: &[u8], out: &mut [u8]) -> u64
-    ensures { (result ≡ compareAnswer first.now second.now (length out.old)) × (out.new ≡ compareLeaves first.now second.now out.old) }
+    ensures { (result ≡ compare_answer first.now second.now (length out.old)) × (out.new ≡ compare_leaves first.now second.now out.old) }
 {
     let mut a = [0u64; confstate::WORDS];
     let mut b = [0u64; confstate::WORDS];
@@ -65,7 +65,7 @@ pub fn compare(first: &[u8], second: &[u8], out: &mut [u8]) -> u64
 // Whether the lines of two messages have room: the longest that there can be, or these, which are then counted.
 fn have_room(a: &[u64], b: &[u64], room: usize) -> bool
     requires { Ascending a.now × Ascending b.now }
-    ensures { result ≡ leb (length (lines (messageIn a.now) (messageIn b.now))) room }
+    ensures { result ≡ leb (length (lines (message_in a.now) (message_in b.now))) room }
 {
     if LONGEST <= room {
         return true;
@@ -108,7 +108,7 @@ fn read_sets(bytes: &[u8], words: &mut [u64]) -> u64
 
 // `refused N`.
 fn put_refused(out: &mut [u8], at: usize, number: u64) -> usize
-    ensures { Put out.old at (refusedText number) out.new result }
+    ensures { Put out.old at (refused_text number) out.new result }
 {
     let p = text::put_bytes(out, at, b"refused ");
     let q = text::put_decimal(out, p, number);
@@ -118,7 +118,7 @@ fn put_refused(out: &mut [u8], at: usize, number: u64) -> usize
 // The lines of two messages whose lists ascend: ids ascending, then the flag.
 fn put_lines(out: &mut [u8], at: usize, a: &[u64], b: &[u64]) -> usize
     requires { Ascending a.now × Ascending b.now }
-    ensures { Put out.old at (lines (messageIn a.now) (messageIn b.now)) out.new result }
+    ensures { Put out.old at (lines (message_in a.now) (message_in b.now)) out.new result }
 {
     let p = put_ids(out, at, a, b);
     line::put_flag(out, p, a[confstate::FLAG] == 1, b[confstate::FLAG] == 1)
@@ -127,7 +127,7 @@ fn put_lines(out: &mut [u8], at: usize, a: &[u64], b: &[u64]) -> usize
 // The lines of the ids, as they are met.
 fn put_ids(out: &mut [u8], at: usize, a: &[u64], b: &[u64]) -> usize
     requires { Ascending a.now × Ascending b.now }
-    ensures { Put out.old at (idLines (messageIn a.now) (messageIn b.now)) out.new result }
+    ensures { Put out.old at (id_lines (message_in a.now) (message_in b.now)) out.new result }
 {
     let mut end = at;
     let mut i = walk::begin();

@@ -1,8 +1,8 @@
 // The text of a line: document 02, l).
 ghost use Rattle.std.specs.Prelude.{◌≡◌};
 ghost use Rattle.text.specs.Put.{Put};
-ghost use Rattle.comparison.specs.Compare.{same as sameOf, standingText, line, lineIf, flagLine};
-ghost use Rattle.comparison.specs.Steps.{nameText};
+ghost use Rattle.comparison.specs.Compare.{same as sameOf, standing_text, line, line_if, flag_line};
+ghost use Rattle.comparison.specs.Steps.{name_text};
 
 // The sets that an id is in.
 #[derive(Drop)]
@@ -15,7 +15,7 @@ pub struct Standing {
 
 // The line of an id, where its standing differs.
 pub fn put_id(out: &mut [u8], at: usize, id: u64, s: Standing, t: Standing) -> usize
-    ensures { Put out.old at (lineIf id s t) out.new result }
+    ensures { Put out.old at (line_if id s t) out.new result }
 {
     if same(s, t) {
         return at;
@@ -43,7 +43,7 @@ fn put_line(out: &mut [u8], at: usize, id: u64, s: Standing, t: Standing) -> usi
 
 // The names of the sets, joined by `+`; `none` where there is none.
 fn put_standing(out: &mut [u8], at: usize, s: Standing) -> usize
-    ensures { Put out.old at (standingText s) out.new result }
+    ensures { Put out.old at (standing_text s) out.new result }
 {
     let second = s.voters;
     let third = second || s.outgoing;
@@ -59,7 +59,7 @@ fn put_standing(out: &mut [u8], at: usize, s: Standing) -> usize
 
 // The name of a set that the id is in, after a `+` where another name stands before it.
 fn put_name(out: &mut [u8], at: usize, is_in: bool, later: bool, name: &[u8]) -> usize
-    ensures { Put out.old at (nameText is_in later name.now) out.new result }
+    ensures { Put out.old at (name_text is_in later name.now) out.new result }
 {
     if !is_in {
         return at;
@@ -73,7 +73,7 @@ fn put_name(out: &mut [u8], at: usize, is_in: bool, later: bool, name: &[u8]) ->
 
 // The flag, where it differs.
 pub fn put_flag(out: &mut [u8], at: usize, first: bool, second: bool) -> usize
-    ensures { Put out.old at (flagLine first second) out.new result }
+    ensures { Put out.old at (flag_line first second) out.new result }
 {
     if first == second {
         return at;

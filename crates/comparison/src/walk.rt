@@ -1,8 +1,8 @@
 // Two messages whose lists ascend, walked side by side: the next id is the least of what stands where the walk is in the eight lists.
 ghost use Rattle.std.specs.Prelude.{◌≡◌, ◌+◌, ◌≤◌, length, drop};
-ghost use Rattle.idset.specs.Places.{firstIs};
-ghost use Rattle.confstate.specs.Words.{listIn};
-ghost use Rattle.comparison.specs.Steps.{Lists, Within, begin as beginOf, lesserOf, leastOf, next_of, left_of, firstsOf, past_of, one_of};
+ghost use Rattle.idset.specs.Places.{first_is};
+ghost use Rattle.confstate.specs.Words.{list_in};
+ghost use Rattle.comparison.specs.Steps.{Lists, Within, begin as beginOf, lesser_of, least_of, next_of, left_of, firsts_of, past_of, one_of};
 
 use crate::line::Standing;
 use confstate::{LEARNERS, NEXT, OUTGOING, VOTERS};
@@ -48,7 +48,7 @@ pub fn next_id(a: &[u64], i: Places, b: &[u64], j: Places) -> Found
 // What was found, or the least id that is left of a message where that is less.
 fn least(words: &[u64], p: Places, found: Found) -> Found
     requires { Lists words.now }
-    ensures { result ≡ leastOf (left_of words.now p) found }
+    ensures { result ≡ least_of (left_of words.now p) found }
 {
     let a = lesser(words, VOTERS, p.voters, found);
     let b = lesser(words, OUTGOING, p.outgoing, a);
@@ -58,8 +58,8 @@ fn least(words: &[u64], p: Places, found: Found) -> Found
 
 // What was found, or the id at the place `at` of the list at `k` where that is less.
 fn lesser(words: &[u64], k: usize, at: usize, found: Found) -> Found
-    requires { (k + 65 ≤ length words.now) × (length (listIn words.now k) ≤ 64) }
-    ensures { result ≡ lesserOf (drop at (listIn words.now k)) found }
+    requires { (k + 65 ≤ length words.now) × (length (list_in words.now k) ≤ 64) }
+    ensures { result ≡ lesser_of (drop at (list_in words.now k)) found }
 {
     let count = words[k + 64] as usize;
     if count <= at {
@@ -77,7 +77,7 @@ fn lesser(words: &[u64], k: usize, at: usize, found: Found) -> Found
 // The sets of a message that `id` is in, where it is the least that is left.
 pub fn sets_at(words: &[u64], p: Places, id: u64) -> Standing
     requires { Lists words.now }
-    ensures { result ≡ firstsOf (left_of words.now p) id }
+    ensures { result ≡ firsts_of (left_of words.now p) id }
 {
     Standing {
         voters: is_at(words, VOTERS, p.voters, id),
@@ -89,8 +89,8 @@ pub fn sets_at(words: &[u64], p: Places, id: u64) -> Standing
 
 // Whether `id` stands at the place `at` of the list at `k`.
 fn is_at(words: &[u64], k: usize, at: usize, id: u64) -> bool
-    requires { (k + 65 ≤ length words.now) × (length (listIn words.now k) ≤ 64) }
-    ensures { result ≡ firstIs id (drop at (listIn words.now k)) }
+    requires { (k + 65 ≤ length words.now) × (length (list_in words.now k) ≤ 64) }
+    ensures { result ≡ first_is id (drop at (list_in words.now k)) }
 {
     let count = words[k + 64] as usize;
     idset::stands_at(&words[k..k + 64], count, at, id)

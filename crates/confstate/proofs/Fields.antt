@@ -4,20 +4,20 @@ use mathlib.Core.Path.{◌≡◌, refl, ap, sym, subst, ◌∙◌}
 use mathlib.Core.Bool.{Bool, true, false, not, cond}
 use mathlib.Core.List.{List, [], ◌∷◌, ◌++◌}
 use native.Mathlib.Omega.{arith}
-use borrow.Author.Tests.{lt-ltb, le-ltb, le-leb, lt-leb, ltb-true, ltb-false, ne_eqb, not-true, not-false}
+use borrow.Author.Tests.{lt-ltb, le-ltb, le_leb, lt-leb, ltb_true, ltb-false, ne_eqb, not_true, not_false}
 use lib.Dec.{eqb, ltb}
-use lib.ListN.{length, take, drop, get_or, set, length-append, length-drop}
+use lib.ListN.{length, take, drop, get_or, set, length_append, length-drop}
 use lib.Seq.{drop-drop}
 use Rattle.rules.specs.State.{ConfState}
-use Rattle.rules.specs.Wire.{Found, bad, found, Payload, varint, bytes, single, lengthIn, numbered, varintIn}
-use Rattle.rules.specs.Message.{Numbers, faulty, all, numbers, grown, packed, Read, taken, withFlag, listed, flagged, entered}
-use Rattle.wire.specs.Varints.{varintAt}
+use Rattle.rules.specs.Wire.{Found, bad, found, Payload, varint, bytes, single, length_in, numbered, varint_in}
+use Rattle.rules.specs.Message.{Numbers, faulty, all, numbers, grown, packed, Read, taken, with_flag, listed, flagged, entered}
+use Rattle.wire.specs.Varints.{varint_at}
 use Rattle.wire.specs.declared.Varint.{Varint}
 use Rattle.wire.proofs.Found.{read-bad, read_found, found_within}
-use Rattle.confstate.specs.Words.{flagWord, listWords, confStateWords, listIn, messageIn}
+use Rattle.confstate.specs.Words.{flag_word, list_words, conf_state_words, list_in, message_in}
 use Rattle.confstate.specs.Steps.{Holding, Listing, Grows, stop, Takes, closed, held_at, fixed_at}
 use Rattle.confstate.specs.declared.read.Taken.{Taken}
-use Rattle.confstate.proofs.Words.{counted, count_set, id-set, told, listed-count, list_back, listing, list_of, with_list, replaced, block_in, block_out, list-few, flag-set}
+use Rattle.confstate.proofs.Words.{counted, count_set, id-set, told, listed-count, list_back, listing, list_of, with_list, replaced, block_in, block_out, list_few, flag-set}
 
 -- ** Its number
 
@@ -25,7 +25,7 @@ pub beyond : (n : ℕ) → (n ≡ 0 → ⊥) → ltb 536870911 n ≡ not (number
 beyond n h = by (ltb n (2 ^ 29)) refl
   where
     by : (t : Bool) → ltb n (2 ^ 29) ≡ t → ltb 536870911 n ≡ not (numbered n)
-    by true t = rw (ne_eqb _ _ h, t, le-ltb 536870911 n (omega (arith, ltb-true n (2 ^ 29) t)))
+    by true t = rw (ne_eqb _ _ h, t, le-ltb 536870911 n (omega (arith, ltb_true n (2 ^ 29) t)))
     by false t = rw (ne_eqb _ _ h, t, lt-ltb 536870911 n (omega (arith, ltb-false n (2 ^ 29) t)))
 
 pub numbered-some : (f : ℕ) → numbered f ≡ true → 0 < f
@@ -35,38 +35,38 @@ numbered-some (suc f) e = omega arith
 -- ** A single number after a list
 
 module _ {ws : List ℕ} (k : Listing ws) (x : ℕ) where
-  pub single-full : 64 ≤ get_or ws 64 0 → Grows (grown (listIn ws 0) (all (x ∷ []))) 30 ws
+  pub single-full : 64 ≤ get_or ws 64 0 → Grows (grown (list_in ws 0) (all (x ∷ []))) 30 ws
   unfolding Grows
   single-full h =
-      let e : grown (listIn ws 0) (all (x ∷ [])) ≡ faulty 30
-      = rw (lt-leb (length (listIn ws 0 ++ (x ∷ []))) 64 (omega (arith, length-append (listIn ws 0) (x ∷ []), listed-count k))) in
+      let e : grown (list_in ws 0) (all (x ∷ [])) ≡ faulty 30
+      = rw (lt-leb (length (list_in ws 0 ++ (x ∷ []))) 64 (omega (arith, length_append (list_in ws 0) (x ∷ []), listed-count k))) in
       subst (λ (r : Numbers). Grows r 30 ws) (sym e) refl
 
-  pub single_more : get_or ws 64 0 < 64 → Grows (grown (listIn ws 0) (all (x ∷ []))) 0 (set (set ws (get_or ws 64 0) x) 64 (get_or ws 64 0 + 1))
-  unfolding Grows listWords
+  pub single_more : get_or ws 64 0 < 64 → Grows (grown (list_in ws 0) (all (x ∷ []))) 0 (set (set ws (get_or ws 64 0) x) 64 (get_or ws 64 0 + 1))
+  unfolding Grows list_words
   single_more h =
-      let n : get_or ws 64 0 ≡ length (listIn ws 0) = listed-count k in
-      let few : length (listIn ws 0) < 64 = omega arith in
-      let long : length (listIn ws 0 ++ (x ∷ [])) ≡ get_or ws 64 0 + 1 = omega (arith, length-append (listIn ws 0) (x ∷ [])) in
-      let e : grown (listIn ws 0) (all (x ∷ [])) ≡ all (listIn ws 0 ++ (x ∷ [])) = rw (le-leb (length (listIn ws 0 ++ (x ∷ []))) 64 (omega arith)) in
-      let a : set ws (get_or ws 64 0) x ≡ counted (listIn ws 0 ++ (x ∷ [])) (length (listIn ws 0))
-      = ap (λ (j : ℕ). set ws j x) n ∙ (ap (λ (l : List ℕ). set l (length (listIn ws 0)) x) k.words ∙ id-set (listIn ws 0) (length (listIn ws 0)) x few) in
-      let b : set (set ws (get_or ws 64 0) x) 64 (get_or ws 64 0 + 1) ≡ listWords (listIn ws 0 ++ (x ∷ []))
+      let n : get_or ws 64 0 ≡ length (list_in ws 0) = listed-count k in
+      let few : length (list_in ws 0) < 64 = omega arith in
+      let long : length (list_in ws 0 ++ (x ∷ [])) ≡ get_or ws 64 0 + 1 = omega (arith, length_append (list_in ws 0) (x ∷ [])) in
+      let e : grown (list_in ws 0) (all (x ∷ [])) ≡ all (list_in ws 0 ++ (x ∷ [])) = rw (le_leb (length (list_in ws 0 ++ (x ∷ []))) 64 (omega arith)) in
+      let a : set ws (get_or ws 64 0) x ≡ counted (list_in ws 0 ++ (x ∷ [])) (length (list_in ws 0))
+      = ap (λ (j : ℕ). set ws j x) n ∙ (ap (λ (l : List ℕ). set l (length (list_in ws 0)) x) k.words ∙ id-set (list_in ws 0) (length (list_in ws 0)) x few) in
+      let b : set (set ws (get_or ws 64 0) x) 64 (get_or ws 64 0 + 1) ≡ list_words (list_in ws 0 ++ (x ∷ []))
       = ap (λ (l : List ℕ). set l 64 (get_or ws 64 0 + 1)) a
-      ∙ (count_set (listIn ws 0 ++ (x ∷ [])) (length (listIn ws 0)) (get_or ws 64 0 + 1) (omega arith) ∙ told (listIn ws 0 ++ (x ∷ [])) (sym long)) in
+      ∙ (count_set (list_in ws 0 ++ (x ∷ [])) (length (list_in ws 0)) (get_or ws 64 0 + 1) (omega arith) ∙ told (list_in ws 0 ++ (x ∷ [])) (sym long)) in
       subst (λ (r : Numbers). Grows r 0 (set (set ws (get_or ws 64 0) x) 64 (get_or ws 64 0 + 1))) (sym e) (refl, b)
 
 -- ** A field taken in
 
-entered-list : (f : ℕ) (p : Payload) (m : ConfState) → 0 < f → f < 5
+entered_list : (f : ℕ) (p : Payload) (m : ConfState) → 0 < f → f < 5
     → entered (record { number = f; payload = p }) m ≡ listed (λ xs. with_list f xs m) (grown (list_of f m) (numbers p))
 unfolding entered
-entered-list zero p m a b = absurd (omega arith)
-entered-list (suc zero) p m a b = refl
-entered-list (suc (suc zero)) p m a b = refl
-entered-list (suc (suc (suc zero))) p m a b = refl
-entered-list (suc (suc (suc (suc zero)))) p m a b = refl
-entered-list (suc (suc (suc (suc (suc f))))) p m a b = absurd (omega arith)
+entered_list zero p m a b = absurd (omega arith)
+entered_list (suc zero) p m a b = refl
+entered_list (suc (suc zero)) p m a b = refl
+entered_list (suc (suc (suc zero))) p m a b = refl
+entered_list (suc (suc (suc (suc zero)))) p m a b = refl
+entered_list (suc (suc (suc (suc (suc f))))) p m a b = absurd (omega arith)
 
 entered-unknown : (f : ℕ) (p : Payload) (m : ConfState) → 5 < f → entered (record { number = f; payload = p }) m ≡ taken m
 unfolding entered
@@ -79,50 +79,50 @@ entered-flag f p m h = ap (λ (g : ℕ). entered (record { number = g; payload =
 
 module _ {ws : List ℕ} (k : Holding ws) where
   abbrev m : ConfState
-  m = messageIn ws
+  m = message_in ws
 
   -- the block that is lent is a list
-  lent : (f : ℕ) → 0 < f → f < 5 → take 65 (drop (65 * (f - 1)) ws) ≡ listWords (list_of f m)
+  lent : (f : ℕ) → 0 < f → f < 5 → take 65 (drop (65 * (f - 1)) ws) ≡ list_words (list_of f m)
   lent f a b = ap (λ (l : List ℕ). take 65 (drop (65 * (f - 1)) l)) k.words ∙ block_in m k.few f a b
 
-  pub lent-list : (f n : ℕ) → numbered f ≡ true → f < 5 → n ≡ 65 → Listing (take n (drop (65 * (f - 1)) ws))
-  lent-list f n a b e =
-      subst Listing (sym (ap (λ (j : ℕ). take j (drop (65 * (f - 1)) ws)) e ∙ lent f (numbered-some f a) b)) (listing (list_of f m) (list-few m k.few f))
+  pub lent_list : (f n : ℕ) → numbered f ≡ true → f < 5 → n ≡ 65 → Listing (take n (drop (65 * (f - 1)) ws))
+  lent_list f n a b e =
+      subst Listing (sym (ap (λ (j : ℕ). take j (drop (65 * (f - 1)) ws)) e ∙ lent f (numbered-some f a) b)) (listing (list_of f m) (list_few m k.few f))
 
-  pub list-taken : (f n q g : ℕ) (p : Payload) (new : List ℕ) → numbered f ≡ true → f < 5 → n ≡ 65
-      → Grows (grown (listIn (take n (drop (65 * (f - 1)) ws)) 0) (numbers p)) g new
+  pub list_taken : (f n q g : ℕ) (p : Payload) (new : List ℕ) → numbered f ≡ true → f < 5 → n ≡ 65
+      → Grows (grown (list_in (take n (drop (65 * (f - 1)) ws)) 0) (numbers p)) g new
       → Takes (closed q (entered (record { number = f; payload = p }) m)) (record { fault = g; next = q }) (take (65 * (f - 1)) ws ++ (new ++ drop n (drop (65 * (f - 1)) ws)))
   unfolding Grows Takes
-  list-taken f n q g p new a b e h =
+  list_taken f n q g p new a b e h =
       by (grown (list_of f m) (numbers p)) refl
       (subst (λ (l : List ℕ). Grows (grown l (numbers p)) g new)
-      (ap (λ (j : ℕ). listIn (take j (drop (65 * (f - 1)) ws)) 0) e ∙ (ap (λ (l : List ℕ). listIn l 0) (lent f (numbered-some f a) b) ∙ list_back (list_of f m) (list-few m k.few f))) h)
+      (ap (λ (j : ℕ). list_in (take j (drop (65 * (f - 1)) ws)) 0) e ∙ (ap (λ (l : List ℕ). list_in l 0) (lent f (numbered-some f a) b) ∙ list_back (list_of f m) (list_few m k.few f))) h)
     where
       by : (x : Numbers) → grown (list_of f m) (numbers p) ≡ x → Grows x g new
           → Takes (closed q (entered (record { number = f; payload = p }) m)) (record { fault = g; next = q }) (take (65 * (f - 1)) ws ++ (new ++ drop n (drop (65 * (f - 1)) ws)))
       by (faulty d) z w =
           subst (λ (r : Read). Takes (closed q r) (record { fault = g; next = q }) (take (65 * (f - 1)) ws ++ (new ++ drop n (drop (65 * (f - 1)) ws))))
-          (sym (entered-list f p m (numbered-some f a) b ∙ ap (listed (λ xs. with_list f xs m)) z)) w
+          (sym (entered_list f p m (numbered-some f a) b ∙ ap (listed (λ xs. with_list f xs m)) z)) w
       by (all xs) z w =
           let t : ◌≡◌ {A = Taken} (record { fault = g; next = q }) (record { fault = 0; next = q }) = (λ i. record { fault = w.0 i; next = q }) in
-          let u : take (65 * (f - 1)) ws ++ (new ++ drop n (drop (65 * (f - 1)) ws)) ≡ confStateWords (with_list f xs m)
+          let u : take (65 * (f - 1)) ws ++ (new ++ drop n (drop (65 * (f - 1)) ws)) ≡ conf_state_words (with_list f xs m)
           = ap (λ (j : ℕ). take (65 * (f - 1)) ws ++ (new ++ drop j (drop (65 * (f - 1)) ws))) e
           ∙ (ap (λ (l : List ℕ). replaced (65 * (f - 1)) new l) k.words
-          ∙ (ap (λ (l : List ℕ). replaced (65 * (f - 1)) l (confStateWords m)) w.1 ∙ block_out m k.few f xs (numbered-some f a) b)) in
+          ∙ (ap (λ (l : List ℕ). replaced (65 * (f - 1)) l (conf_state_words m)) w.1 ∙ block_out m k.few f xs (numbered-some f a) b)) in
           subst (λ (r : Read). Takes (closed q r) (record { fault = g; next = q }) (take (65 * (f - 1)) ws ++ (new ++ drop n (drop (65 * (f - 1)) ws))))
-          (sym (entered-list f p m (numbered-some f a) b ∙ ap (listed (λ xs. with_list f xs m)) z)) (t, u)
+          (sym (entered_list f p m (numbered-some f a) b ∙ ap (listed (λ xs. with_list f xs m)) z)) (t, u)
 
   pub unknown-taken : (f q : ℕ) (p : Payload) → 5 < f → Takes (closed q (entered (record { number = f; payload = p }) m)) (record { fault = 0; next = q }) ws
   unfolding Takes
   unknown-taken f q p h =
       subst (λ (r : Read). Takes (closed q r) (record { fault = 0; next = q }) ws) (sym (entered-unknown f p m h)) (refl, k.words)
 
-  pub flag-taken : (f q v w : ℕ) → f ≡ 5 → w ≡ flagWord (not (eqb v 0))
+  pub flag-taken : (f q v w : ℕ) → f ≡ 5 → w ≡ flag_word (not (eqb v 0))
       → Takes (closed q (entered (record { number = f; payload = varint v }) m)) (record { fault = 0; next = q }) (set ws 260 w)
   unfolding Takes
   flag-taken f q v w h e =
-      let u : set ws 260 w ≡ confStateWords (withFlag (not (eqb v 0)) m)
-      = ap (λ (j : ℕ). set ws 260 j) e ∙ (ap (λ (l : List ℕ). set l 260 (flagWord (not (eqb v 0)))) k.words ∙ flag-set m k.few (not (eqb v 0))) in
+      let u : set ws 260 w ≡ conf_state_words (with_flag (not (eqb v 0)) m)
+      = ap (λ (j : ℕ). set ws 260 j) e ∙ (ap (λ (l : List ℕ). set l 260 (flag_word (not (eqb v 0)))) k.words ∙ flag-set m k.few (not (eqb v 0))) in
       subst (λ (r : Read). Takes (closed q r) (record { fault = 0; next = q }) (set ws 260 w)) (sym (entered-flag f (varint v) m h)) (refl, u)
 
 -- ** A field whose payload was looked for at q
@@ -132,9 +132,9 @@ module _ (q f : ℕ) (w : ConfState) (t : Taken) (ws : List ℕ) {x : Found Payl
   unfolding Takes
   held-bad h g = subst (λ (y : Found Payload). Takes (held_at q f w y) t ws) (sym h) g
 
-  pub held-29 : {p : Payload} {n : ℕ} → x ≡ found p n → numbered f ≡ false → t.fault ≡ 29 → Takes (held_at q f w x) t ws
+  pub held_29 : {p : Payload} {n : ℕ} → x ≡ found p n → numbered f ≡ false → t.fault ≡ 29 → Takes (held_at q f w x) t ws
   unfolding Takes
-  held-29 {p} {n} h b g =
+  held_29 {p} {n} h b g =
       subst (λ (y : Found Payload). Takes (held_at q f w y) t ws) (sym h)
       (subst (λ (c : Bool). Takes (cond c (closed (q + n) (entered (record { number = f; payload = p }) w)) (stop 29)) t ws) (sym b) g)
 
@@ -144,44 +144,44 @@ module _ (q f : ℕ) (w : ConfState) (t : Taken) (ws : List ℕ) {x : Found Payl
       (subst (λ (c : Bool). Takes (cond c (closed (q + n) (entered (record { number = f; payload = p }) w)) (stop 29)) t ws) (sym b) g)
 
 -- what `misnumbered` says
-misnumbered-yes : (f : ℕ) {b : Bool} → b ≡ not (numbered f) → b ≡ true → numbered f ≡ false
-misnumbered-yes f e h = not-true (numbered f) (sym e ∙ h)
+misnumbered_yes : (f : ℕ) {b : Bool} → b ≡ not (numbered f) → b ≡ true → numbered f ≡ false
+misnumbered_yes f e h = not_true (numbered f) (sym e ∙ h)
 
-pub misnumbered-no : (f : ℕ) {b : Bool} → b ≡ not (numbered f) → b ≡ false → numbered f ≡ true
-misnumbered-no f e h = not-false (numbered f) (sym e ∙ h)
+pub misnumbered_no : (f : ℕ) {b : Bool} → b ≡ not (numbered f) → b ≡ false → numbered f ≡ true
+misnumbered_no f e h = not_false (numbered f) (sym e ∙ h)
 
-pub misnumbered-some : (f : ℕ) {b : Bool} → b ≡ not (numbered f) → b ≡ false → 0 < f
-misnumbered-some f e h = numbered-some f (misnumbered-no f e h)
+pub misnumbered_some : (f : ℕ) {b : Bool} → b ≡ not (numbered f) → b ≡ false → 0 < f
+misnumbered_some f e h = numbered-some f (misnumbered_no f e h)
 
-pub past-5 : {f : ℕ} → 5 ≤ f → (f ≡ 5 → ⊥) → 5 < f
-past-5 h g = omega arith
+pub past_5 : {f : ℕ} → 5 ≤ f → (f ≡ 5 → ⊥) → 5 < f
+past_5 h g = omega arith
 
 pub fault-of : {t : Taken} {e : ℕ} → t ≡ record { fault = e; next = 0 } → t.fault ≡ e
 fault-of h = ap (λ (y : Taken). y.fault) h
 
 -- ** A varint
 
-module _ (l : List ℕ) (q f : ℕ) (w : ConfState) {v : Varint} (e : v ≡ varintAt l q) where
-  pub varint-bad : (t : Taken) (ws : List ℕ) → (v.fault ≡ 0 → ⊥) → t ≡ record { fault = v.fault; next = 0 } → Takes (held_at q f w (single (varintIn (drop q l)))) t ws
+module _ (l : List ℕ) (q f : ℕ) (w : ConfState) {v : Varint} (e : v ≡ varint_at l q) where
+  pub varint-bad : (t : Taken) (ws : List ℕ) → (v.fault ≡ 0 → ⊥) → t ≡ record { fault = v.fault; next = 0 } → Takes (held_at q f w (single (varint_in (drop q l)))) t ws
   varint-bad t ws h g = held-bad q f w t ws (ap single (read-bad l q e h)) (fault-of g)
 
   module _ (h : v.fault ≡ 0) where
-    at-varint : single (varintIn (drop q l)) ≡ found (varint v.value) (read_found l q e h).0
+    at-varint : single (varint_in (drop q l)) ≡ found (varint v.value) (read_found l q e h).0
     at-varint = ap single (read_found l q e h).1.1
 
-    pub varint-29 : {b : Bool} (t : Taken) (ws : List ℕ) → b ≡ not (numbered f) → b ≡ true → t ≡ record { fault = 29; next = 0 } → Takes (held_at q f w (single (varintIn (drop q l)))) t ws
-    varint-29 t ws a b g = held-29 q f w t ws at-varint (misnumbered-yes f a b) (fault-of g)
+    pub varint_29 : {b : Bool} (t : Taken) (ws : List ℕ) → b ≡ not (numbered f) → b ≡ true → t ≡ record { fault = 29; next = 0 } → Takes (held_at q f w (single (varint_in (drop q l)))) t ws
+    varint_29 t ws a b g = held_29 q f w t ws at-varint (misnumbered_yes f a b) (fault-of g)
 
     pub varint-go : (t : Taken) (ws : List ℕ) → numbered f ≡ true → Takes (closed v.next (entered (record { number = f; payload = varint v.value }) w)) t ws
-        → Takes (held_at q f w (single (varintIn (drop q l)))) t ws
+        → Takes (held_at q f w (single (varint_in (drop q l)))) t ws
     varint-go t ws b g =
         held-go q f w t ws at-varint b (subst (λ (j : ℕ). Takes (closed j (entered (record { number = f; payload = varint v.value }) w)) t ws) (read_found l q e h).1.0 g)
 
 -- ** A length and as many bytes
 
-module _ (l : List ℕ) (q f : ℕ) (w : ConfState) {v : Varint} (e : v ≡ varintAt l q) where
-  pub length-bad : (t : Taken) (ws : List ℕ) → (v.fault ≡ 0 → ⊥) → t ≡ record { fault = v.fault; next = 0 } → Takes (held_at q f w (lengthIn (drop q l) (varintIn (drop q l)))) t ws
-  length-bad t ws h g = held-bad q f w t ws (ap (lengthIn (drop q l)) (read-bad l q e h)) (fault-of g)
+module _ (l : List ℕ) (q f : ℕ) (w : ConfState) {v : Varint} (e : v ≡ varint_at l q) where
+  pub length-bad : (t : Taken) (ws : List ℕ) → (v.fault ≡ 0 → ⊥) → t ≡ record { fault = v.fault; next = 0 } → Takes (held_at q f w (length_in (drop q l) (varint_in (drop q l)))) t ws
+  length-bad t ws h g = held-bad q f w t ws (ap (length_in (drop q l)) (read-bad l q e h)) (fault-of g)
 
   module _ (h : v.fault ≡ 0) where
     abbrev n : ℕ
@@ -190,31 +190,31 @@ module _ (l : List ℕ) (q f : ℕ) (w : ConfState) {v : Varint} (e : v ≡ vari
     ends : v.next ≡ q + n
     ends = (read_found l q e h).1.0
 
-    at_length : lengthIn (drop q l) (varintIn (drop q l)) ≡ lengthIn (drop q l) (found v.value n)
-    at_length = ap (lengthIn (drop q l)) (read_found l q e h).1.1
+    at_length : length_in (drop q l) (varint_in (drop q l)) ≡ length_in (drop q l) (found v.value n)
+    at_length = ap (length_in (drop q l)) (read_found l q e h).1.1
 
     pub next-within : v.next ≤ length l
     next-within = omega (arith, ends, (found_within (drop q l) (read_found l q e h).1.1).0, (found_within (drop q l) (read_found l q e h).1.1).1, length-drop q l)
 
-    pub length-28 : (t : Taken) (ws : List ℕ) → length l - v.next < v.value → t ≡ record { fault = 28; next = 0 } → Takes (held_at q f w (lengthIn (drop q l) (varintIn (drop q l)))) t ws
-    length-28 t ws a g =
+    pub length_28 : (t : Taken) (ws : List ℕ) → length l - v.next < v.value → t ≡ record { fault = 28; next = 0 } → Takes (held_at q f w (length_in (drop q l) (varint_in (drop q l)))) t ws
+    length_28 t ws a g =
         let b : length (drop q l) - n < v.value = omega (arith, length-drop q l, ends) in
         held-bad q f w t ws (at_length ∙ rw (lt-leb v.value (length (drop q l) - n) b)) (fault-of g)
 
     module _ (fit : v.value ≤ length l - v.next) where
-      at-bytes : lengthIn (drop q l) (varintIn (drop q l)) ≡ found (bytes (take v.value (drop v.next l))) (n + v.value)
+      at-bytes : length_in (drop q l) (varint_in (drop q l)) ≡ found (bytes (take v.value (drop v.next l))) (n + v.value)
       at-bytes =
           let b : v.value ≤ length (drop q l) - n = omega (arith, length-drop q l, ends) in
           let d : drop n (drop q l) ≡ drop v.next l = drop-drop n q l ∙ ap (λ (j : ℕ). drop j l) (sym ends) in
-          at_length ∙ rw (le-leb v.value (length (drop q l) - n) b, d)
+          at_length ∙ rw (le_leb v.value (length (drop q l) - n) b, d)
 
-      pub length-29 : {b : Bool} (t : Taken) (ws : List ℕ) → b ≡ not (numbered f) → b ≡ true → t ≡ record { fault = 29; next = 0 }
-          → Takes (held_at q f w (lengthIn (drop q l) (varintIn (drop q l)))) t ws
-      length-29 t ws a b g = held-29 q f w t ws at-bytes (misnumbered-yes f a b) (fault-of g)
+      pub length_29 : {b : Bool} (t : Taken) (ws : List ℕ) → b ≡ not (numbered f) → b ≡ true → t ≡ record { fault = 29; next = 0 }
+          → Takes (held_at q f w (length_in (drop q l) (varint_in (drop q l)))) t ws
+      length_29 t ws a b g = held_29 q f w t ws at-bytes (misnumbered_yes f a b) (fault-of g)
 
       pub length-go : (t : Taken) (ws : List ℕ) → numbered f ≡ true
           → Takes (closed (v.next + v.value) (entered (record { number = f; payload = bytes (take v.value (drop v.next l)) }) w)) t ws
-          → Takes (held_at q f w (lengthIn (drop q l) (varintIn (drop q l)))) t ws
+          → Takes (held_at q f w (length_in (drop q l) (varint_in (drop q l)))) t ws
       length-go t ws b g =
           let k : v.next + v.value ≡ q + (n + v.value) = omega (arith, ends) in
           held-go q f w t ws at-bytes b (subst (λ (j : ℕ). Takes (closed j (entered (record { number = f; payload = bytes (take v.value (drop v.next l)) }) w)) t ws) k g)
@@ -225,24 +225,24 @@ module _ (l : List ℕ) (q f : ℕ) (w : ConfState) {v : Varint} (e : v ≡ vari
   flag-bytes j y t ws g b = subst (λ (r : Read). Takes (closed j r) t ws) (sym (entered-flag f (bytes y) w g)) (fault-of b)
 
 -- the bytes that are lent, as many as the length says
-pub grown-part : (old l : List ℕ) (s j n g : ℕ) (new : List ℕ) → j ≡ n → Grows (grown old (packed (take j (drop s l)))) g new → Grows (grown old (numbers (bytes (take n (drop s l))))) g new
-grown-part old l s j n g new e h = subst (λ (i : ℕ). Grows (grown old (packed (take i (drop s l)))) g new) e h
+pub grown_part : (old l : List ℕ) (s j n g : ℕ) (new : List ℕ) → j ≡ n → Grows (grown old (packed (take j (drop s l)))) g new → Grows (grown old (numbers (bytes (take n (drop s l))))) g new
+grown_part old l s j n g new e h = subst (λ (i : ℕ). Grows (grown old (packed (take i (drop s l)))) g new) e h
 
 -- ** Eight or four bytes
 
 module _ (room q f n : ℕ) where
-  pub fixed-28 : {t : Taken} → room < n → t ≡ record { fault = 28; next = 0 } → t ≡ fixed_at room q f n
+  pub fixed_28 : {t : Taken} → room < n → t ≡ record { fault = 28; next = 0 } → t ≡ fixed_at room q f n
   unfolding fixed_at
-  fixed-28 h e = e ∙ sym (rw (lt-leb n room h))
+  fixed_28 h e = e ∙ sym (rw (lt-leb n room h))
 
-  pub fixed-29 : {t : Taken} {b : Bool} → n ≤ room → b ≡ not (numbered f) → b ≡ true → t ≡ record { fault = 29; next = 0 } → t ≡ fixed_at room q f n
+  pub fixed_29 : {t : Taken} {b : Bool} → n ≤ room → b ≡ not (numbered f) → b ≡ true → t ≡ record { fault = 29; next = 0 } → t ≡ fixed_at room q f n
   unfolding fixed_at
-  fixed-29 h a b e = e ∙ sym (rw (le-leb n room h, misnumbered-yes f a b))
+  fixed_29 h a b e = e ∙ sym (rw (le_leb n room h, misnumbered_yes f a b))
 
-  pub fixed-known : {t : Taken} {b : Bool} → n ≤ room → b ≡ not (numbered f) → b ≡ false → f < 6 → t ≡ record { fault = 29; next = 0 } → t ≡ fixed_at room q f n
+  pub fixed_known : {t : Taken} {b : Bool} → n ≤ room → b ≡ not (numbered f) → b ≡ false → f < 6 → t ≡ record { fault = 29; next = 0 } → t ≡ fixed_at room q f n
   unfolding fixed_at
-  fixed-known h a b k e = e ∙ sym (rw (le-leb n room h, misnumbered-no f a b, le-ltb 5 f (omega arith)))
+  fixed_known h a b k e = e ∙ sym (rw (le_leb n room h, misnumbered_no f a b, le-ltb 5 f (omega arith)))
 
   pub fixed-go : {b : Bool} → n ≤ room → b ≡ not (numbered f) → b ≡ false → 6 ≤ f → record { fault = 0; next = q + n } ≡ fixed_at room q f n
   unfolding fixed_at
-  fixed-go h a b k = sym (rw (le-leb n room h, misnumbered-no f a b, lt-ltb 5 f (omega arith)))
+  fixed-go h a b k = sym (rw (le_leb n room h, misnumbered_no f a b, lt-ltb 5 f (omega arith)))

@@ -4,19 +4,19 @@ use mathlib.Core.Path.{◌≡◌, refl, ap, sym, subst, ◌∙◌}
 use mathlib.Core.Bool.{Bool, true, false, cond}
 use mathlib.Core.List.{List, [], ◌∷◌, ◌++◌, append-nil}
 use native.Mathlib.Omega.{arith}
-use borrow.Author.Tests.{le-leb, lt-leb, ltb-true, ltb-false}
+use borrow.Author.Tests.{le_leb, lt-leb, ltb_true, ltb-false}
 use lib.Dec.{leb, ltb}
-use lib.ListN.{length, take, drop, get_or, set, length-set, length-drop, length-append, drop_of_length-le}
+use lib.ListN.{length, take, drop, get_or, set, length-set, length-drop, length_append, drop_of_length_le}
 use lib.Seq.{append_snoc, take_all, take-append-le, drop-drop}
-use Rattle.rules.specs.Wire.{Front, cut, num, front, fits, Found, bad, found, judged, varintIn}
+use Rattle.rules.specs.Wire.{Front, cut, num, front, fits, Found, bad, found, judged, varint_in}
 use Rattle.rules.specs.Message.{Numbers, faulty, all, lower, before, packed, grown}
 use Rattle.rules.proofs.Wire.{fits-yes, front-within}
 use Rattle.rules.proofs.Packed.{packed_none, packed-cut, packed-num}
-use Rattle.wire.specs.Varints.{varintAt}
+use Rattle.wire.specs.Varints.{varint_at}
 use Rattle.wire.specs.declared.Varint.{Varint}
 use Rattle.wire.proofs.Fronts.{front-last}
 use Rattle.wire.proofs.Found.{read-bad, read_found, read-fault, found_within}
-use Rattle.confstate.specs.Words.{listWords, listIn}
+use Rattle.confstate.specs.Words.{list_words, list_in}
 use Rattle.confstate.specs.Steps.{Listing, Grows}
 use Rattle.confstate.proofs.Words.{counted, count_set, told, id-set, listed-count}
 
@@ -30,9 +30,9 @@ abbrev size_of : {A : Type 0} → Found A → ℕ
 size_of (bad e) = 0
 size_of (found x n) = n
 
-packed-28 : (l : List ℕ) → 0 < length l → varintIn l ≡ bad 28 → packed l ≡ faulty 28
-unfolding varintIn
-packed-28 l h e = by (front l) refl e
+packed_28 : (l : List ℕ) → 0 < length l → varint_in l ≡ bad 28 → packed l ≡ faulty 28
+unfolding varint_in
+packed_28 l h e = by (front l) refl e
   where
     fit : (t : Bool) (v n : ℕ) → cond t (found v n) (bad 29) ≡ bad 28 → packed l ≡ faulty 28
     fit true v n z = absurd (omega (arith, ap number_of z))
@@ -42,8 +42,8 @@ packed-28 l h e = by (front l) refl e
     by cut g z = packed-cut l h g
     by (num v n) g z = fit (fits v n) v n z
 
-packed-found : (l : List ℕ) {v n : ℕ} → varintIn l ≡ found v n → packed l ≡ before (found v n) (packed (drop n l))
-unfolding varintIn
+packed-found : (l : List ℕ) {v n : ℕ} → varint_in l ≡ found v n → packed l ≡ before (found v n) (packed (drop n l))
+unfolding varint_in
 packed-found l {v} {n} e = by (front l) refl e
   where
     fit : (w m : ℕ) → front l ≡ num w m → (t : Bool) → fits w m ≡ t → cond t (found w m) (bad 29) ≡ found v n → packed l ≡ before (found v n) (packed (drop n l))
@@ -56,11 +56,11 @@ packed-found l {v} {n} e = by (front l) refl e
     by cut g z = absurd (omega (arith, ap number_of z))
     by (num w m) g z = fit w m g (fits w m) refl z
 
-packed-over : (l : List ℕ) {v n : ℕ} → front l ≡ num v n → fits v n ≡ false → packed l ≡ lower 29 (packed (drop n l))
-packed-over l {v} {n} g t = packed-num l g ∙ ap (λ (b : Bool). before (cond b (found v n) (bad 29)) (packed (drop n l))) t
+packed_over : (l : List ℕ) {v n : ℕ} → front l ≡ num v n → fits v n ≡ false → packed l ≡ lower 29 (packed (drop n l))
+packed_over l {v} {n} g t = packed-num l g ∙ ap (λ (b : Bool). before (cond b (found v n) (bad 29)) (packed (drop n l))) t
 
-one_found : (l : List ℕ) (p : ℕ) → p < length l → get_or l p 0 < 128 → varintIn (drop p l) ≡ found (get_or l p 0) 1
-unfolding varintIn
+one_found : (l : List ℕ) (p : ℕ) → p < length l → get_or l p 0 < 128 → varint_in (drop p l) ≡ found (get_or l p 0) 1
+unfolding varint_in
 one_found l p h b = ap judged (front-last l p h b) ∙ rw (fits-yes (get_or l p 0) 1 (omega arith) (omega arith))
 
 -- ** The loop
@@ -77,11 +77,11 @@ twice e = by (ltb 29 e) refl
     by true t = refl
     by false t = rw t
 
-result-over : (b : Bool) (zs : List ℕ) (r : Numbers) → result b zs (lower 29 r) ≡ result true zs r
-result-over true zs (faulty e) = ap faulty (twice e)
-result-over true zs (all xs) = refl
-result-over false zs (faulty e) = refl
-result-over false zs (all xs) = refl
+result_over : (b : Bool) (zs : List ℕ) (r : Numbers) → result b zs (lower 29 r) ≡ result true zs r
+result_over true zs (faulty e) = ap faulty (twice e)
+result_over true zs (all xs) = refl
+result_over false zs (faulty e) = refl
+result_over false zs (all xs) = refl
 
 result_value : (b : Bool) (zs : List ℕ) (v n : ℕ) (r : Numbers) → result b zs (before (found v n) r) ≡ result b (zs ++ (v ∷ [])) r
 result_value true zs v n (faulty e) = refl
@@ -89,9 +89,9 @@ result_value true zs v n (all xs) = refl
 result_value false zs v n (faulty e) = refl
 result_value false zs v n (all xs) = rw (append_snoc zs v xs)
 
-result-cut : (b : Bool) (zs : List ℕ) → result b zs (faulty 28) ≡ faulty 28
-result-cut true zs = refl
-result-cut false zs = refl
+result_cut : (b : Bool) (zs : List ℕ) → result b zs (faulty 28) ≡ faulty 28
+result_cut true zs = refl
+result_cut false zs = refl
 
 -- an id put where there is room for it
 pub stored : (zs : List ℕ) (c x : ℕ) → cond (ltb (length zs) 64) (set (counted (take 64 zs) c) (length zs) x) (counted (take 64 zs) c) ≡ counted (take 64 (zs ++ (x ∷ []))) c
@@ -99,9 +99,9 @@ stored zs c x = by (ltb (length zs) 64) refl
   where
     by : (t : Bool) → ltb (length zs) 64 ≡ t → cond t (set (counted (take 64 zs) c) (length zs) x) (counted (take 64 zs) c) ≡ counted (take 64 (zs ++ (x ∷ []))) c
     by true t =
-        let h : length zs < 64 = ltb-true _ _ t in
+        let h : length zs < 64 = ltb_true _ _ t in
         ap (λ (l : List ℕ). set (counted l c) (length zs) x) (take_all 64 zs (omega arith))
-        ∙ (id-set zs c x h ∙ ap (λ (l : List ℕ). counted l c) (sym (take_all 64 (zs ++ (x ∷ [])) (omega (arith, length-append zs (x ∷ []))))))
+        ∙ (id-set zs c x h ∙ ap (λ (l : List ℕ). counted l c) (sym (take_all 64 (zs ++ (x ∷ [])) (omega (arith, length_append zs (x ∷ []))))))
     by false t = ap (λ (l : List ℕ). counted l c) (sym (take-append-le 64 zs (x ∷ []) (ltb-false _ _ t)))
 
 -- the loop has come to p: `old` was there before, c is the count that stands in the words meanwhile
@@ -114,16 +114,16 @@ pub record Packing (l old : List ℕ) (c : ℕ) (ws : List ℕ) (n : ℕ) (over 
   pub holds : ws ≡ counted (take 64 seen) c
   pub same : result over seen (packed (drop p l)) ≡ grown old (packed l)
 
-pub packing-start : {l : List ℕ} {ws : List ℕ} → Listing ws → Packing l (listIn ws 0) (length (listIn ws 0)) ws (get_or ws 64 0) false 0
-unfolding listWords
-packing-start {l} {ws} k =
+pub packing_start : {l : List ℕ} {ws : List ℕ} → Listing ws → Packing l (list_in ws 0) (length (list_in ws 0)) ws (get_or ws 64 0) false 0
+unfolding list_words
+packing_start {l} {ws} k =
     record {
       long = k.long;
-      seen = listIn ws 0;
+      seen = list_in ws 0;
       spot = omega arith;
       count = listed-count k;
       bound = omega (arith, k.few, listed-count k);
-      holds = k.words ∙ ap (λ (x : List ℕ). counted x (length (listIn ws 0))) (sym (take_all 64 (listIn ws 0) k.few));
+      holds = k.words ∙ ap (λ (x : List ℕ). counted x (length (list_in ws 0))) (sym (take_all 64 (list_in ws 0) k.few));
       same = refl;
     }
 
@@ -136,14 +136,14 @@ module _ {l old : List ℕ} {c : ℕ} {ws : List ℕ} {n p : ℕ} {over : Bool} 
   kept false x = refl
 
   -- one more number, of so many bytes
-  packing-found : {x size : ℕ} {m : List ℕ} → varintIn (drop p l) ≡ found x size → m ≡ cond (ltb n 64) (set ws n x) ws → Packing l old c m (n + 1) over (p + size)
-  packing-found {x} {size} {m} reads g =
+  packing_found : {x size : ℕ} {m : List ℕ} → varint_in (drop p l) ≡ found x size → m ≡ cond (ltb n 64) (set ws n x) ws → Packing l old c m (n + 1) over (p + size)
+  packing_found {x} {size} {m} reads g =
       let d : drop size (drop p l) ≡ drop (p + size) l = drop-drop size p l in
       record {
         long = ap length g ∙ (kept (ltb n 64) x ∙ k.long);
         seen = k.seen ++ (x ∷ []);
         spot = omega (arith, (found_within (drop p l) reads).0, (found_within (drop p l) reads).1, length-drop p l);
-        count = omega (arith, k.count, length-append k.seen (x ∷ []));
+        count = omega (arith, k.count, length_append k.seen (x ∷ []));
         bound = omega (arith, k.bound, (found_within (drop p l) reads).0);
         holds = g ∙ (rw (k.holds, k.count) (stored k.seen c x));
         same = ap (λ (y : List ℕ). result over (k.seen ++ (x ∷ [])) (packed y)) (sym d)
@@ -151,18 +151,18 @@ module _ {l old : List ℕ} {c : ℕ} {ws : List ℕ} {n p : ℕ} {over : Bool} 
       }
 
   -- one of one byte
-  pub packing-one : p < length l → get_or l p 0 < 128 → {m : List ℕ} → m ≡ cond (ltb n 64) (set ws n (get_or l p 0)) ws → Packing l old c m (n + 1) over (p + 1)
-  packing-one h b g = packing-found (one_found l p h b) g
+  pub packing_one : p < length l → get_or l p 0 < 128 → {m : List ℕ} → m ≡ cond (ltb n 64) (set ws n (get_or l p 0)) ws → Packing l old c m (n + 1) over (p + 1)
+  packing_one h b g = packing_found (one_found l p h b) g
 
-  module _ (h : p < length l) {v : Varint} (e : v ≡ varintAt l p) where
+  module _ (h : p < length l) {v : Varint} (e : v ≡ varint_at l p) where
     left : 0 < length (drop p l)
     left = simp length-drop (omega arith)
 
-    pub packing-cut : v.fault ≡ 28 → Grows (grown old (packed l)) 28 ws
+    pub packing_cut : v.fault ≡ 28 → Grows (grown old (packed l)) 28 ws
     unfolding Grows
-    packing-cut f =
-        let a : varintIn (drop p l) ≡ bad 28 = read-bad l p e (λ z. omega arith) ∙ ap (λ (x : ℕ). bad x) f in
-        let b : grown old (packed l) ≡ faulty 28 = sym (here (packed-28 (drop p l) left a)) ∙ result-cut over k.seen in
+    packing_cut f =
+        let a : varint_in (drop p l) ≡ bad 28 = read-bad l p e (λ z. omega arith) ∙ ap (λ (x : ℕ). bad x) f in
+        let b : grown old (packed l) ≡ faulty 28 = sym (here (packed_28 (drop p l) left a)) ∙ result_cut over k.seen in
         subst (λ (r : Numbers). Grows r 28 ws) (sym b) refl
 
     module _ (f : v.fault ≡ 0) where
@@ -172,66 +172,66 @@ module _ {l old : List ℕ} {c : ℕ} {ws : List ℕ} {n p : ℕ} {over : Bool} 
       ends : v.next ≡ p + size
       ends = (read_found l p e f).1.0
 
-      reads : varintIn (drop p l) ≡ found v.value size
+      reads : varint_in (drop p l) ≡ found v.value size
       reads = (read_found l p e f).1.1
 
       pub value-within : (p < v.next) × (v.next ≤ length l)
       value-within = (omega (arith, (found_within (drop p l) reads).0, ends), omega (arith, (found_within (drop p l) reads).1, ends, length-drop p l))
 
-      pub packing-next : {m : List ℕ} → m ≡ cond (ltb n 64) (set ws n v.value) ws → Packing l old c m (n + 1) over v.next
-      packing-next {m} g = subst (λ (j : ℕ). Packing l old c m (n + 1) over j) (sym ends) (packing-found reads g)
+      pub packing_next : {m : List ℕ} → m ≡ cond (ltb n 64) (set ws n v.value) ws → Packing l old c m (n + 1) over v.next
+      packing_next {m} g = subst (λ (j : ℕ). Packing l old c m (n + 1) over j) (sym ends) (packing_found reads g)
 
     module _ (f : v.fault ≡ 0 → ⊥) (g : v.fault ≡ 28 → ⊥) where
       abbrev wide : ℕ
       wide = (read-fault l p e f g).1
 
-      over-ends : v.next ≡ p + wide
-      over-ends = (read-fault l p e f g).2.1.0
+      over_ends : v.next ≡ p + wide
+      over_ends = (read-fault l p e f g).2.1.0
 
-      over-front : front (drop p l) ≡ num (read-fault l p e f g).0 wide
-      over-front = (read-fault l p e f g).2.1.1.0
+      over_front : front (drop p l) ≡ num (read-fault l p e f g).0 wide
+      over_front = (read-fault l p e f g).2.1.1.0
 
-      pub over-within : (p < v.next) × (v.next ≤ length l)
-      over-within = (omega (arith, (front-within (drop p l) over-front).0, over-ends), omega (arith, (front-within (drop p l) over-front).1, over-ends, length-drop p l))
+      pub over_within : (p < v.next) × (v.next ≤ length l)
+      over_within = (omega (arith, (front-within (drop p l) over_front).0, over_ends), omega (arith, (front-within (drop p l) over_front).1, over_ends, length-drop p l))
 
-      pub packing-over : Packing l old c ws n true v.next
-      packing-over =
-          let d : drop wide (drop p l) ≡ drop v.next l = drop-drop wide p l ∙ ap (λ (j : ℕ). drop j l) (sym over-ends) in
+      pub packing_over : Packing l old c ws n true v.next
+      packing_over =
+          let d : drop wide (drop p l) ≡ drop v.next l = drop-drop wide p l ∙ ap (λ (j : ℕ). drop j l) (sym over_ends) in
           record {
             long = k.long;
             seen = k.seen;
-            spot = over-within.1;
+            spot = over_within.1;
             count = k.count;
-            bound = omega (arith, k.bound, over-within.0);
+            bound = omega (arith, k.bound, over_within.0);
             holds = k.holds;
             same = ap (λ (x : List ℕ). lower 29 (packed x)) (sym d)
-                ∙ (sym (result-over over k.seen (packed (drop wide (drop p l)))) ∙ here (packed-over (drop p l) over-front (read-fault l p e f g).2.1.1.1));
+                ∙ (sym (result_over over k.seen (packed (drop wide (drop p l)))) ∙ here (packed_over (drop p l) over_front (read-fault l p e f g).2.1.1.1));
           }
 
   module _ (h : length l ≤ p) where
     ended : result over k.seen (all []) ≡ grown old (packed l)
-    ended = here (ap packed (drop_of_length-le l h) ∙ packed_none)
+    ended = here (ap packed (drop_of_length_le l h) ∙ packed_none)
 
-    pub packing-29 : over ≡ true → Grows (grown old (packed l)) 29 ws
+    pub packing_29 : over ≡ true → Grows (grown old (packed l)) 29 ws
     unfolding Grows
-    packing-29 e =
+    packing_29 e =
         let b : grown old (packed l) ≡ faulty 29 = sym ended ∙ ap (λ (b : Bool). result b k.seen (all [])) e in
         subst (λ (r : Numbers). Grows r 29 ws) (sym b) refl
 
     whole : over ≡ false → grown old (packed l) ≡ cond (leb (length k.seen) 64) (all k.seen) (faulty 30)
     whole e = sym ended ∙ (ap (λ (b : Bool). result b k.seen (all [])) e ∙ rw append-nil)
 
-    pub packing-30 : over ≡ false → 64 < n → Grows (grown old (packed l)) 30 ws
+    pub packing_30 : over ≡ false → 64 < n → Grows (grown old (packed l)) 30 ws
     unfolding Grows
-    packing-30 e g =
+    packing_30 e g =
         let b : grown old (packed l) ≡ faulty 30 = whole e ∙ rw (lt-leb (length k.seen) 64 (omega (arith, k.count))) in
         subst (λ (r : Numbers). Grows r 30 ws) (sym b) refl
 
-    pub packing-all : over ≡ false → n ≤ 64 → Grows (grown old (packed l)) 0 (set ws 64 n)
+    pub packing_all : over ≡ false → n ≤ 64 → Grows (grown old (packed l)) 0 (set ws 64 n)
     unfolding Grows
-    packing-all e g =
+    packing_all e g =
         let few : length k.seen ≤ 64 = omega (arith, k.count) in
-        let b : grown old (packed l) ≡ all k.seen = whole e ∙ rw (le-leb (length k.seen) 64 few) in
-        let w : set ws 64 n ≡ listWords k.seen
+        let b : grown old (packed l) ≡ all k.seen = whole e ∙ rw (le_leb (length k.seen) 64 few) in
+        let w : set ws 64 n ≡ list_words k.seen
         = ap (λ (x : List ℕ). set x 64 n) (k.holds ∙ ap (λ (x : List ℕ). counted x c) (take_all 64 k.seen few)) ∙ (count_set k.seen c n few ∙ told k.seen k.count) in
         subst (λ (r : Numbers). Grows r 0 (set ws 64 n)) (sym b) (refl, w)

@@ -4,48 +4,48 @@ use mathlib.Core.Path.{◌≡◌, refl, ap, sym, subst, ◌∙◌}
 use mathlib.Core.Bool.{Bool, true, false, ◌&&◌, cond}
 use mathlib.Core.List.{List}
 use native.Mathlib.Omega.{arith}
-use borrow.Author.Tests.{ltb-true, ltb-false, eq-eqb, ne_eqb}
+use borrow.Author.Tests.{ltb_true, ltb-false, eq-eqb, ne_eqb}
 use lib.Dec.{leb, ltb}
-use lib.ListN.{length, drop, length-drop, drop_of_length-le}
+use lib.ListN.{length, drop, length-drop, drop_of_length_le}
 use lib.Seq.{drop-drop}
 use Rattle.rules.specs.State.{ConfState}
-use Rattle.rules.specs.Apply.{noConfState}
-use Rattle.rules.specs.Wire.{Found, bad, found, Payload, fixed, bytes, single, fixedIn, lengthIn, payloadIn, Field, numbered, held, tagged, varintIn, fieldIn, row}
-use Rattle.rules.specs.Message.{Few64, Read, refused, taken, entered, goOn, readRow, read}
+use Rattle.rules.specs.Apply.{no_conf_state}
+use Rattle.rules.specs.Wire.{Found, bad, found, Payload, fixed, bytes, single, fixed_in, length_in, payload_in, Field, numbered, held, tagged, varint_in, field_in, row}
+use Rattle.rules.specs.Message.{Few64, Read, refused, taken, entered, go_on, read_row, read}
 use Rattle.rules.proofs.Refusals.{field-named, entered-named}
-use Rattle.rules.proofs.Lists64.{entered-few, few-none}
+use Rattle.rules.proofs.Lists64.{entered-few, few_none}
 use Rattle.rules.proofs.MessageFirst.{row-end, row_first, row-bad}
 use Rattle.rules.proofs.Wire.{field-within}
-use Rattle.wire.specs.Varints.{varintAt}
+use Rattle.wire.specs.Varints.{varint_at}
 use Rattle.wire.specs.declared.Varint.{Varint}
 use Rattle.wire.proofs.Found.{read-bad, read_found}
-use Rattle.confstate.specs.Words.{confStateWords, messageIn}
-use Rattle.confstate.specs.Steps.{Holding, Reads, Step, stop, go, Takes, closed, held_at, taggedAt, field_at, fixed_at}
+use Rattle.confstate.specs.Words.{conf_state_words, message_in}
+use Rattle.confstate.specs.Steps.{Holding, Reads, Step, stop, go, Takes, closed, held_at, tagged_at, field_at, fixed_at}
 use Rattle.confstate.specs.declared.read.Taken.{Taken}
 use Rattle.confstate.proofs.Words.{holding, words_back, words-length}
-use Rattle.confstate.proofs.Fields.{held-bad, held-29, held-go, fault-of, numbered-some, unknown-taken}
+use Rattle.confstate.proofs.Fields.{held-bad, held_29, held-go, fault-of, numbered-some, unknown-taken}
 
 -- ** The payload, by the wire type
 
-payload-0 : (w : ℕ) (l : List ℕ) → w ≡ 0 → payloadIn w l ≡ single (varintIn l)
-unfolding payloadIn
-payload-0 w l h = rw (eq-eqb w 0 h)
+payload_0 : (w : ℕ) (l : List ℕ) → w ≡ 0 → payload_in w l ≡ single (varint_in l)
+unfolding payload_in
+payload_0 w l h = rw (eq-eqb w 0 h)
 
-payload-1 : (w : ℕ) (l : List ℕ) → w ≡ 1 → payloadIn w l ≡ fixedIn 8 l
-unfolding payloadIn
-payload-1 w l h = rw (ne_eqb w 0 (λ e. omega arith), eq-eqb w 1 h)
+payload_1 : (w : ℕ) (l : List ℕ) → w ≡ 1 → payload_in w l ≡ fixed_in 8 l
+unfolding payload_in
+payload_1 w l h = rw (ne_eqb w 0 (λ e. omega arith), eq-eqb w 1 h)
 
-payload-2 : (w : ℕ) (l : List ℕ) → w ≡ 2 → payloadIn w l ≡ lengthIn l (varintIn l)
-unfolding payloadIn
-payload-2 w l h = rw (ne_eqb w 0 (λ e. omega arith), ne_eqb w 1 (λ e. omega arith), eq-eqb w 2 h)
+payload_2 : (w : ℕ) (l : List ℕ) → w ≡ 2 → payload_in w l ≡ length_in l (varint_in l)
+unfolding payload_in
+payload_2 w l h = rw (ne_eqb w 0 (λ e. omega arith), ne_eqb w 1 (λ e. omega arith), eq-eqb w 2 h)
 
-payload-5 : (w : ℕ) (l : List ℕ) → w ≡ 5 → payloadIn w l ≡ fixedIn 4 l
-unfolding payloadIn
-payload-5 w l h = rw (ne_eqb w 0 (λ e. omega arith), ne_eqb w 1 (λ e. omega arith), ne_eqb w 2 (λ e. omega arith), eq-eqb w 5 h)
+payload_5 : (w : ℕ) (l : List ℕ) → w ≡ 5 → payload_in w l ≡ fixed_in 4 l
+unfolding payload_in
+payload_5 w l h = rw (ne_eqb w 0 (λ e. omega arith), ne_eqb w 1 (λ e. omega arith), ne_eqb w 2 (λ e. omega arith), eq-eqb w 5 h)
 
-payload-none : (w : ℕ) (l : List ℕ) → (w ≡ 0 → ⊥) → (w ≡ 1 → ⊥) → (w ≡ 2 → ⊥) → (w ≡ 5 → ⊥) → payloadIn w l ≡ bad 29
-unfolding payloadIn
-payload-none w l a b c d = rw (ne_eqb w 0 a, ne_eqb w 1 b, ne_eqb w 2 c, ne_eqb w 5 d)
+payload_none : (w : ℕ) (l : List ℕ) → (w ≡ 0 → ⊥) → (w ≡ 1 → ⊥) → (w ≡ 2 → ⊥) → (w ≡ 5 → ⊥) → payload_in w l ≡ bad 29
+unfolding payload_in
+payload_none w l a b c d = rw (ne_eqb w 0 a, ne_eqb w 1 b, ne_eqb w 2 c, ne_eqb w 5 d)
 
 -- ** Eight or four bytes
 
@@ -60,79 +60,79 @@ entered-fixed (suc (suc (suc (suc (suc zero))))) m a b = refl
 entered-fixed (suc (suc (suc (suc (suc (suc f)))))) m a b = absurd (omega arith)
 
 module _ {ws : List ℕ} (k : Holding ws) (l : List ℕ) (q f n : ℕ) (t : Taken) where
-  fixed-taken : t ≡ fixed_at (length l - q) q f n → Takes (held_at q f (messageIn ws) (fixedIn n (drop q l))) t ws
+  fixed-taken : t ≡ fixed_at (length l - q) q f n → Takes (held_at q f (message_in ws) (fixed_in n (drop q l))) t ws
   unfolding fixed_at Takes
   fixed-taken e = by (leb n (length l - q)) refl e
     where
       room : (c : Bool) → leb n (length l - q) ≡ c → leb n (length (drop q l)) ≡ c
       room c h = ap (leb n) (length-drop q l) ∙ h
 
-      here : (c : Bool) → leb n (length l - q) ≡ c → fixedIn n (drop q l) ≡ cond c (found fixed n) (bad 28)
+      here : (c : Bool) → leb n (length l - q) ≡ c → fixed_in n (drop q l) ≡ cond c (found fixed n) (bad 28)
       here c h = ap (λ (x : Bool). cond x (found fixed n) (bad 28)) (room c h)
 
       known : (c : Bool) → ltb 5 f ≡ c → numbered f ≡ true → leb n (length l - q) ≡ true → t ≡ cond c (record { fault = 0; next = q + n }) (record { fault = 29; next = 0 })
-          → Takes (held_at q f (messageIn ws) (fixedIn n (drop q l))) t ws
+          → Takes (held_at q f (message_in ws) (fixed_in n (drop q l))) t ws
       known true h b g z =
-          held-go q f (messageIn ws) t ws (here true g) b
-          (subst (λ (x : Taken). Takes (closed (q + n) (entered (record { number = f; payload = fixed }) (messageIn ws))) x ws) (sym z) (unknown-taken k f (q + n) fixed (ltb-true 5 f h)))
+          held-go q f (message_in ws) t ws (here true g) b
+          (subst (λ (x : Taken). Takes (closed (q + n) (entered (record { number = f; payload = fixed }) (message_in ws))) x ws) (sym z) (unknown-taken k f (q + n) fixed (ltb_true 5 f h)))
       known false h b g z =
-          held-go q f (messageIn ws) t ws (here true g) b
-          (subst (λ (r : Read). Takes (closed (q + n) r) t ws) (sym (entered-fixed f (messageIn ws) (numbered-some f b) (ltb-false 5 f h))) (fault-of z))
+          held-go q f (message_in ws) t ws (here true g) b
+          (subst (λ (r : Read). Takes (closed (q + n) r) t ws) (sym (entered-fixed f (message_in ws) (numbered-some f b) (ltb-false 5 f h))) (fault-of z))
 
       fits : (c : Bool) → numbered f ≡ c → leb n (length l - q) ≡ true → t ≡ cond (c && ltb 5 f) (record { fault = 0; next = q + n }) (record { fault = 29; next = 0 })
-          → Takes (held_at q f (messageIn ws) (fixedIn n (drop q l))) t ws
+          → Takes (held_at q f (message_in ws) (fixed_in n (drop q l))) t ws
       fits true b g z = known (ltb 5 f) refl b g z
-      fits false b g z = held-29 q f (messageIn ws) t ws (here true g) b (fault-of z)
+      fits false b g z = held_29 q f (message_in ws) t ws (here true g) b (fault-of z)
 
       by : (c : Bool) → leb n (length l - q) ≡ c
           → t ≡ cond c (cond (numbered f && ltb 5 f) (record { fault = 0; next = q + n }) (record { fault = 29; next = 0 })) (record { fault = 28; next = 0 })
-          → Takes (held_at q f (messageIn ws) (fixedIn n (drop q l))) t ws
+          → Takes (held_at q f (message_in ws) (fixed_in n (drop q l))) t ws
       by true g z = fits (numbered f) refl g z
-      by false g z = held-bad q f (messageIn ws) t ws (here false g) (fault-of z)
+      by false g z = held-bad q f (message_in ws) t ws (here false g) (fault-of z)
 
 -- ** A field, by its tag
 
-module _ (l : List ℕ) (q : ℕ) (w : ConfState) {v : Varint} (e : v ≡ varintAt l q) where
+module _ (l : List ℕ) (q : ℕ) (w : ConfState) {v : Varint} (e : v ≡ varint_at l q) where
   pub tag-bad : (t : Taken) (ws : List ℕ) → (v.fault ≡ 0 → ⊥) → t ≡ record { fault = v.fault; next = 0 } → Takes (field_at l q w) t ws
   unfolding field_at Takes
-  tag-bad t ws h g = subst (λ (x : Found ℕ). Takes (taggedAt l q w x) t ws) (sym (read-bad l q e h)) (fault-of g)
+  tag-bad t ws h g = subst (λ (x : Found ℕ). Takes (tagged_at l q w x) t ws) (sym (read-bad l q e h)) (fault-of g)
 
   module _ (h : v.fault ≡ 0) where
-    by-tag : field_at l q w ≡ held_at v.next (v.value / 8) w (payloadIn (v.value % 8) (drop v.next l))
+    by-tag : field_at l q w ≡ held_at v.next (v.value / 8) w (payload_in (v.value % 8) (drop v.next l))
     unfolding field_at
     by-tag =
-        ap (taggedAt l q w) (read_found l q e h).1.1
-        ∙ ap (λ (j : ℕ). held_at j (v.value / 8) w (payloadIn (v.value % 8) (drop j l))) (sym (read_found l q e h).1.0)
+        ap (tagged_at l q w) (read_found l q e h).1.1
+        ∙ ap (λ (j : ℕ). held_at j (v.value / 8) w (payload_in (v.value % 8) (drop j l))) (sym (read_found l q e h).1.0)
 
-    with-payload : {x : Found Payload} (t : Taken) (ws : List ℕ) → payloadIn (v.value % 8) (drop v.next l) ≡ x → Takes (held_at v.next (v.value / 8) w x) t ws → Takes (field_at l q w) t ws
-    with-payload t ws p g =
+    with_payload : {x : Found Payload} (t : Taken) (ws : List ℕ) → payload_in (v.value % 8) (drop v.next l) ≡ x → Takes (held_at v.next (v.value / 8) w x) t ws → Takes (field_at l q w) t ws
+    with_payload t ws p g =
         subst (λ (s : Step). Takes s t ws) (sym by-tag) (subst (λ (y : Found Payload). Takes (held_at v.next (v.value / 8) w y) t ws) (sym p) g)
 
-    pub tag-2 : (t : Taken) (ws : List ℕ) → v.value % 8 ≡ 2
-        → Takes (held_at v.next (v.value / 8) w (lengthIn (drop v.next l) (varintIn (drop v.next l)))) t ws → Takes (field_at l q w) t ws
-    tag-2 t ws p g = with-payload t ws (payload-2 (v.value % 8) (drop v.next l) p) g
+    pub tag_2 : (t : Taken) (ws : List ℕ) → v.value % 8 ≡ 2
+        → Takes (held_at v.next (v.value / 8) w (length_in (drop v.next l) (varint_in (drop v.next l)))) t ws → Takes (field_at l q w) t ws
+    tag_2 t ws p g = with_payload t ws (payload_2 (v.value % 8) (drop v.next l) p) g
 
-    pub tag-0 : (t : Taken) (ws : List ℕ) → v.value % 8 ≡ 0 → Takes (held_at v.next (v.value / 8) w (single (varintIn (drop v.next l)))) t ws → Takes (field_at l q w) t ws
-    tag-0 t ws p g = with-payload t ws (payload-0 (v.value % 8) (drop v.next l) p) g
+    pub tag_0 : (t : Taken) (ws : List ℕ) → v.value % 8 ≡ 0 → Takes (held_at v.next (v.value / 8) w (single (varint_in (drop v.next l)))) t ws → Takes (field_at l q w) t ws
+    tag_0 t ws p g = with_payload t ws (payload_0 (v.value % 8) (drop v.next l) p) g
 
-    pub tag-none : (t : Taken) (ws : List ℕ) → (v.value % 8 ≡ 0 → ⊥) → (v.value % 8 ≡ 1 → ⊥) → (v.value % 8 ≡ 2 → ⊥) → (v.value % 8 ≡ 5 → ⊥)
+    pub tag_none : (t : Taken) (ws : List ℕ) → (v.value % 8 ≡ 0 → ⊥) → (v.value % 8 ≡ 1 → ⊥) → (v.value % 8 ≡ 2 → ⊥) → (v.value % 8 ≡ 5 → ⊥)
         → t ≡ record { fault = 29; next = 0 } → Takes (field_at l q w) t ws
-    tag-none t ws a b c d g = with-payload t ws (payload-none (v.value % 8) (drop v.next l) a b c d) (held-bad v.next (v.value / 8) w t ws refl (fault-of g))
+    tag_none t ws a b c d g = with_payload t ws (payload_none (v.value % 8) (drop v.next l) a b c d) (held-bad v.next (v.value / 8) w t ws refl (fault-of g))
 
-module _ {ws : List ℕ} (k : Holding ws) (l : List ℕ) (q : ℕ) {v : Varint} (e : v ≡ varintAt l q) (h : v.fault ≡ 0) (t : Taken) where
-  pub tag-1 : v.value % 8 ≡ 1 → t ≡ fixed_at (length l - v.next) v.next (v.value / 8) 8 → Takes (field_at l q (messageIn ws)) t ws
-  tag-1 p g = with-payload l q (messageIn ws) e h t ws (payload-1 (v.value % 8) (drop v.next l) p) (fixed-taken k l v.next (v.value / 8) 8 t g)
+module _ {ws : List ℕ} (k : Holding ws) (l : List ℕ) (q : ℕ) {v : Varint} (e : v ≡ varint_at l q) (h : v.fault ≡ 0) (t : Taken) where
+  pub tag_1 : v.value % 8 ≡ 1 → t ≡ fixed_at (length l - v.next) v.next (v.value / 8) 8 → Takes (field_at l q (message_in ws)) t ws
+  tag_1 p g = with_payload l q (message_in ws) e h t ws (payload_1 (v.value % 8) (drop v.next l) p) (fixed-taken k l v.next (v.value / 8) 8 t g)
 
-  pub tag-5 : v.value % 8 ≡ 5 → t ≡ fixed_at (length l - v.next) v.next (v.value / 8) 4 → Takes (field_at l q (messageIn ws)) t ws
-  tag-5 p g = with-payload l q (messageIn ws) e h t ws (payload-5 (v.value % 8) (drop v.next l) p) (fixed-taken k l v.next (v.value / 8) 4 t g)
+  pub tag_5 : v.value % 8 ≡ 5 → t ≡ fixed_at (length l - v.next) v.next (v.value / 8) 4 → Takes (field_at l q (message_in ws)) t ws
+  tag_5 p g = with_payload l q (message_in ws) e h t ws (payload_5 (v.value % 8) (drop v.next l) p) (fixed-taken k l v.next (v.value / 8) 4 t g)
 
 -- ** A field, as the rules find it
 
-abbrev stepIn : ℕ → ConfState → Found Field → Step
-stepIn q w (bad e) = stop e
-stepIn q w (found f n) = closed (q + n) (entered f w)
+abbrev step_in : ℕ → ConfState → Found Field → Step
+step_in q w (bad e) = stop e
+step_in q w (found f n) = closed (q + n) (entered f w)
 
-step-held : (q f n : ℕ) (w : ConfState) (x : Found Payload) → held_at (q + n) f w x ≡ stepIn q w (held f n x)
+step-held : (q f n : ℕ) (w : ConfState) (x : Found Payload) → held_at (q + n) f w x ≡ step_in q w (held f n x)
 step-held q f n w (bad e) = refl
 step-held q f n w (found p k) = by (numbered f)
   where
@@ -140,18 +140,18 @@ step-held q f n w (found p k) = by (numbered f)
     far = omega arith
 
     by : (c : Bool) → cond c (closed (q + n + k) (entered (record { number = f; payload = p }) w)) (stop 29)
-        ≡ stepIn q w (cond c (found (record { number = f; payload = p }) (n + k)) (bad 29))
+        ≡ step_in q w (cond c (found (record { number = f; payload = p }) (n + k)) (bad 29))
     by true = ap (λ (j : ℕ). closed j (entered (record { number = f; payload = p }) w)) far
     by false = refl
 
-step-tagged : (l : List ℕ) (q : ℕ) (w : ConfState) (x : Found ℕ) → taggedAt l q w x ≡ stepIn q w (tagged (drop q l) x)
+step-tagged : (l : List ℕ) (q : ℕ) (w : ConfState) (x : Found ℕ) → tagged_at l q w x ≡ step_in q w (tagged (drop q l) x)
 step-tagged l q w (bad e) = refl
 step-tagged l q w (found t n) =
-    ap (λ (y : List ℕ). held_at (q + n) (t / 8) w (payloadIn (t % 8) y)) (sym (drop-drop n q l)) ∙ step-held q (t / 8) n w (payloadIn (t % 8) (drop n (drop q l)))
+    ap (λ (y : List ℕ). held_at (q + n) (t / 8) w (payload_in (t % 8) y)) (sym (drop-drop n q l)) ∙ step-held q (t / 8) n w (payload_in (t % 8) (drop n (drop q l)))
 
-step_of : (l : List ℕ) (q : ℕ) (w : ConfState) → field_at l q w ≡ stepIn q w (fieldIn (drop q l))
-unfolding field_at fieldIn
-step_of l q w = step-tagged l q w (varintIn (drop q l))
+step_of : (l : List ℕ) (q : ℕ) (w : ConfState) → field_at l q w ≡ step_in q w (field_in (drop q l))
+unfolding field_at field_in
+step_of l q w = step-tagged l q w (varint_in (drop q l))
 
 -- ** The loop over fields
 
@@ -160,20 +160,20 @@ pub record Going (l ws : List ℕ) (at : ℕ) : Type 0 where
   pub long : length ws ≡ 261
   pub holds : Holding ws
   pub spot : at ≤ length l
-  pub same : readRow (row (drop at l)) (messageIn ws) ≡ read l
+  pub same : read_row (row (drop at l)) (message_in ws) ≡ read l
 
-pub start-length : {ws : List ℕ} → ws ≡ confStateWords noConfState → length ws ≡ 261
-start-length e = ap length e ∙ words-length noConfState few-none
+pub start-length : {ws : List ℕ} → ws ≡ conf_state_words no_conf_state → length ws ≡ 261
+start-length e = ap length e ∙ words-length no_conf_state few_none
 
-pub going_start : (l : List ℕ) {ws : List ℕ} → ws ≡ confStateWords noConfState → Going l ws 0
+pub going_start : (l : List ℕ) {ws : List ℕ} → ws ≡ conf_state_words no_conf_state → Going l ws 0
 unfolding read
 going_start l {ws} e =
-    let k : Holding ws = subst Holding (sym e) (holding noConfState few-none) in
+    let k : Holding ws = subst Holding (sym e) (holding no_conf_state few_none) in
     record {
       long = k.long;
       holds = k;
       spot = omega arith;
-      same = ap (readRow (row l)) (ap messageIn e ∙ words_back noConfState few-none);
+      same = ap (read_row (row l)) (ap message_in e ∙ words_back no_conf_state few_none);
     }
 
 -- what comes of a field at `at`
@@ -183,23 +183,23 @@ Comes l at t ws (go m n) = (t ≡ record { fault = 0; next = n }) × (Going l ws
 
 module _ {l ws : List ℕ} {at : ℕ} (g : Going l ws at) where
   pub going_end : length l ≤ at → Reads (read l) 0 ws
-  unfolding Reads readRow
+  unfolding Reads read_row
   going_end h =
-      let a : read l ≡ taken (messageIn ws) = sym g.same ∙ ap (λ (r : List ℕ). readRow (row r) (messageIn ws)) (drop_of_length-le l h) ∙ ap (λ r. readRow r (messageIn ws)) row-end in
+      let a : read l ≡ taken (message_in ws) = sym g.same ∙ ap (λ (r : List ℕ). read_row (row r) (message_in ws)) (drop_of_length_le l h) ∙ ap (λ r. read_row r (message_in ws)) row-end in
       subst (λ (r : Read). Reads r 0 ws) (sym a) (refl, g.holds.words)
 
-  module _ (h : at < length l) (t : Taken) (new : List ℕ) (w : Takes (field_at l at (messageIn ws)) t new) where
-    comes : Comes l at t new (stepIn at (messageIn ws) (fieldIn (drop at l)))
-    unfolding Takes readRow
-    comes = by (fieldIn (drop at l)) refl (subst (λ (s : Step). Takes s t new) (step_of l at (messageIn ws)) w)
+  module _ (h : at < length l) (t : Taken) (new : List ℕ) (w : Takes (field_at l at (message_in ws)) t new) where
+    comes : Comes l at t new (step_in at (message_in ws) (field_in (drop at l)))
+    unfolding Takes read_row
+    comes = by (field_in (drop at l)) refl (subst (λ (s : Step). Takes s t new) (step_of l at (message_in ws)) w)
       where
         some : 0 < length (drop at l)
         some = simp length-drop (omega arith)
 
-        after : (f : Field) (n : ℕ) → fieldIn (drop at l) ≡ found f n → (r : Read) → entered f (messageIn ws) ≡ r → Takes (closed (at + n) r) t new → Comes l at t new (closed (at + n) r)
+        after : (f : Field) (n : ℕ) → field_in (drop at l) ≡ found f n → (r : Read) → entered f (message_in ws) ≡ r → Takes (closed (at + n) r) t new → Comes l at t new (closed (at + n) r)
         after f n e (refused d) x y = (
-          sym g.same ∙ (ap (λ r. readRow r (messageIn ws)) (row_first (drop at l) e) ∙ ap (λ (r : Read). goOn r (readRow (row (drop n (drop at l))))) x),
-          (y, λ z. omega (arith, (entered-named f (messageIn ws) x).0)),
+          sym g.same ∙ (ap (λ r. read_row r (message_in ws)) (row_first (drop at l) e) ∙ ap (λ (r : Read). go_on r (read_row (row (drop n (drop at l))))) x),
+          (y, λ z. omega (arith, (entered-named f (message_in ws) x).0)),
         )
         after f n e (taken m) x y =
             let k : Few64 m = entered-few f g.holds.few x in
@@ -210,28 +210,28 @@ module _ {l ws : List ℕ} {at : ℕ} (g : Going l ws at) where
                   long = j.long;
                   holds = j;
                   spot = omega (arith, (field-within (drop at l) e).1, length-drop at l);
-                  same = ap (λ (i : List ℕ). readRow (row i) (messageIn new)) (sym (drop-drop n at l))
-                      ∙ (ap (readRow (row (drop n (drop at l)))) (ap messageIn y.1 ∙ words_back m k)
-                      ∙ (sym (ap (λ r. readRow r (messageIn ws)) (row_first (drop at l) e) ∙ ap (λ (r : Read). goOn r (readRow (row (drop n (drop at l))))) x) ∙ g.same));
+                  same = ap (λ (i : List ℕ). read_row (row i) (message_in new)) (sym (drop-drop n at l))
+                      ∙ (ap (read_row (row (drop n (drop at l)))) (ap message_in y.1 ∙ words_back m k)
+                      ∙ (sym (ap (λ r. read_row r (message_in ws)) (row_first (drop at l) e) ∙ ap (λ (r : Read). go_on r (read_row (row (drop n (drop at l))))) x) ∙ g.same));
                 },
                 omega (arith, (field-within (drop at l) e).0),
               ),
             )
 
-        by : (x : Found Field) → fieldIn (drop at l) ≡ x → Takes (stepIn at (messageIn ws) x) t new → Comes l at t new (stepIn at (messageIn ws) x)
-        by (bad e) x y = (sym g.same ∙ ap (λ r. readRow r (messageIn ws)) (row-bad (drop at l) some x), (y, λ z. omega (arith, (field-named (drop at l) x).0)))
-        by (found f n) x y = after f n x (entered f (messageIn ws)) refl y
+        by : (x : Found Field) → field_in (drop at l) ≡ x → Takes (step_in at (message_in ws) x) t new → Comes l at t new (step_in at (message_in ws) x)
+        by (bad e) x y = (sym g.same ∙ ap (λ r. read_row r (message_in ws)) (row-bad (drop at l) some x), (y, λ z. omega (arith, (field-named (drop at l) x).0)))
+        by (found f n) x y = after f n x (entered f (message_in ws)) refl y
 
-    pub going-stop : (t.fault ≡ 0 → ⊥) → Reads (read l) t.fault new
+    pub going_stop : (t.fault ≡ 0 → ⊥) → Reads (read l) t.fault new
     unfolding Reads
-    going-stop f = by (stepIn at (messageIn ws) (fieldIn (drop at l))) comes
+    going_stop f = by (step_in at (message_in ws) (field_in (drop at l))) comes
       where
         by : (s : Step) → Comes l at t new s → Reads (read l) t.fault new
         by (stop e) c = subst (λ (r : Read). Reads r t.fault new) (sym c.0) c.1.0
         by (go m n) c = absurd (f (ap (λ (y : Taken). y.fault) c.0))
 
     pub going_next : t.fault ≡ 0 → Going l new t.next × (at < t.next)
-    going_next f = by (stepIn at (messageIn ws) (fieldIn (drop at l))) comes
+    going_next f = by (step_in at (message_in ws) (field_in (drop at l))) comes
       where
         by : (s : Step) → Comes l at t new s → Going l new t.next × (at < t.next)
         by (stop e) c = absurd (c.1.1 (sym c.1.0 ∙ f))

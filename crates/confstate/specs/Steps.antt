@@ -2,31 +2,31 @@
 -- Assumes nothing.
 use Rattle.std.specs.Prelude.{ℕ, ◌+◌, ◌-◌, ◌/◌, ◌%◌, ◌≤◌, ◌≡◌, ◌&&◌, cond, List, leb, ltb, length, drop}
 use Rattle.rules.specs.State.{ConfState}
-use Rattle.rules.specs.Wire.{Found, bad, found, Payload, numbered, payloadIn, varintIn}
+use Rattle.rules.specs.Wire.{Found, bad, found, Payload, numbered, payload_in, varint_in}
 use Rattle.rules.specs.Message.{Few64, Numbers, faulty, all, Read, refused, taken, entered}
-use Rattle.confstate.specs.Words.{listWords, confStateWords, listIn, messageIn}
+use Rattle.confstate.specs.Words.{list_words, conf_state_words, list_in, message_in}
 use Rattle.confstate.specs.declared.read.Taken.{Taken}
 
 -- words that are those of a message, and of a list
 pub record Holding (ws : List ℕ) : Type 0 where
   pub long : length ws ≡ 261
-  pub words : ws ≡ confStateWords (messageIn ws)
-  pub few : Few64 (messageIn ws)
+  pub words : ws ≡ conf_state_words (message_in ws)
+  pub few : Few64 (message_in ws)
 
 pub record Listing (ws : List ℕ) : Type 0 where
   pub long : length ws ≡ 65
-  pub words : ws ≡ listWords (listIn ws 0)
-  pub few : length (listIn ws 0) ≤ 64
+  pub words : ws ≡ list_words (list_in ws 0)
+  pub few : length (list_in ws 0) ≤ 64
 
 -- numbers put after a list: what is told, and the list's words
 unfoldable pub Grows : Numbers → ℕ → List ℕ → Type 0
 Grows (faulty e) r ws = r ≡ e
-Grows (all xs) r ws = (r ≡ 0) × (ws ≡ listWords xs)
+Grows (all xs) r ws = (r ≡ 0) × (ws ≡ list_words xs)
 
 -- all fields: what is told, and the message's words
 unfoldable pub Reads : Read → ℕ → List ℕ → Type 0
 Reads (refused e) r ws = r ≡ e
-Reads (taken m) r ws = (r ≡ 0) × (ws ≡ confStateWords m)
+Reads (taken m) r ws = (r ≡ 0) × (ws ≡ conf_state_words m)
 
 -- ** One field
 
@@ -37,7 +37,7 @@ pub data Step : Type 0 where
 
 unfoldable pub Takes : Step → Taken → List ℕ → Type 0
 Takes (stop e) t ws = t.fault ≡ e
-Takes (go m n) t ws = (t ≡ record { fault = 0; next = n }) × (ws ≡ confStateWords m)
+Takes (go m n) t ws = (t ≡ record { fault = 0; next = n }) × (ws ≡ conf_state_words m)
 
 abbrev pub closed : ℕ → Read → Step
 closed n (refused e) = stop e
@@ -49,12 +49,12 @@ held_at q f m (bad e) = stop e
 held_at q f m (found p k) = cond (numbered f) (closed (q + k) (entered (record { number = f; payload = p }) m)) (stop 29)
 
 -- the field at place q, by its tag
-abbrev pub taggedAt : List ℕ → ℕ → ConfState → Found ℕ → Step
-taggedAt l q m (bad e) = stop e
-taggedAt l q m (found t n) = held_at (q + n) (t / 8) m (payloadIn (t % 8) (drop (q + n) l))
+abbrev pub tagged_at : List ℕ → ℕ → ConfState → Found ℕ → Step
+tagged_at l q m (bad e) = stop e
+tagged_at l q m (found t n) = held_at (q + n) (t / 8) m (payload_in (t % 8) (drop (q + n) l))
 
 unfoldable pub field_at : List ℕ → ℕ → ConfState → Step
-field_at l q m = taggedAt l q m (varintIn (drop q l))
+field_at l q m = tagged_at l q m (varint_in (drop q l))
 
 -- a field of eight or four bytes, which only an unknown one may have; `room` bytes are left
 unfoldable pub fixed_at : ℕ → ℕ → ℕ → ℕ → Taken

@@ -1,10 +1,10 @@
 // The reader. Refusals: 28, 29, 30; the first faulty field's, and within it the lower.
 ghost use Rattle.std.specs.Prelude.{◌≡◌, not, cond, [], ◌∷◌, ◌-◌, ◌≤◌, ◌<◌, eqb, ltb, length, drop, replicate, set};
-ghost use Rattle.rules.specs.Apply.{noConfState};
-ghost use Rattle.rules.specs.Wire.{numbered, single as singleOf, lengthIn, varintIn};
+ghost use Rattle.rules.specs.Apply.{no_conf_state};
+ghost use Rattle.rules.specs.Wire.{numbered, single as singleOf, length_in, varint_in};
 ghost use Rattle.rules.specs.Message.{all, grown, packed as packedIn, read as read_of};
-ghost use Rattle.confstate.specs.Words.{flagWord, confStateWords, listIn, messageIn};
-ghost use Rattle.confstate.specs.Entries.{readAnswer, readLeaves};
+ghost use Rattle.confstate.specs.Words.{flag_word, conf_state_words, list_in, message_in};
+ghost use Rattle.confstate.specs.Entries.{read_answer, read_leaves};
 ghost use Rattle.confstate.specs.Steps.{Holding, Listing, Grows, Reads, Takes, held_at, field_at, fixed_at};
 
 use crate::WORDS;
@@ -19,7 +19,7 @@ struct Taken {
 // Reads a message into the words of a CONFSTATE: 0; or the refusal, and four empty lists and a false flag. The words after them are kept. Less than 261
 // words: 100, and they are as they were.
 pub fn read(bytes: &[u8], conf_state: &mut [u64]) -> u64
-    ensures { (result ≡ readAnswer bytes.now (length conf_state.old)) × (conf_state.new ≡ readLeaves bytes.now conf_state.old) }
+    ensures { (result ≡ read_answer bytes.now (length conf_state.old)) × (conf_state.new ≡ read_leaves bytes.now conf_state.old) }
 {
     if conf_state.len() < WORDS {
         return 100;
@@ -46,7 +46,7 @@ fn clear(words: &mut [u64])
 
 // The fields, one after the other, up to the first refusal.
 fn fields(bytes: &[u8], words: &mut [u64]) -> u64
-    requires { words.old ≡ confStateWords noConfState }
+    requires { words.old ≡ conf_state_words no_conf_state }
     ensures { Reads (read_of bytes.now) result words.new }
 {
     let mut at = 0;
@@ -63,7 +63,7 @@ fn fields(bytes: &[u8], words: &mut [u64]) -> u64
 // The field at `at`: its tag, then what it holds, by its wire type.
 fn field(bytes: &[u8], at: usize, words: &mut [u64]) -> Taken
     requires { Holding words.old }
-    ensures { Takes (field_at bytes.now at (messageIn words.old)) result words.new }
+    ensures { Takes (field_at bytes.now at (message_in words.old)) result words.new }
 {
     let tag = wire::read_varint(bytes, at);
     if tag.fault != 0 {
@@ -108,7 +108,7 @@ fn misnumbered(number: u64) -> bool
 // A varint: a number of a list, or the flag.
 fn varint_field(bytes: &[u8], at: usize, number: u64, words: &mut [u64]) -> Taken
     requires { Holding words.old }
-    ensures { Takes (held_at at number (messageIn words.old) (singleOf (varintIn (drop at bytes.now)))) result words.new }
+    ensures { Takes (held_at at number (message_in words.old) (singleOf (varint_in (drop at bytes.now)))) result words.new }
 {
     let v = wire::read_varint(bytes, at);
     if v.fault != 0 {
@@ -139,7 +139,7 @@ fn varint_field(bytes: &[u8], at: usize, number: u64, words: &mut [u64]) -> Take
 
 // Any number but 0 is true.
 fn flag(value: u64) -> u64
-    ensures { result ≡ flagWord (not (eqb value 0)) }
+    ensures { result ≡ flag_word (not (eqb value 0)) }
 {
     if value == 0 { 0 } else { 1 }
 }
@@ -147,7 +147,7 @@ fn flag(value: u64) -> u64
 // A length and as many bytes: the numbers of a list, packed.
 fn length_field(bytes: &[u8], at: usize, number: u64, words: &mut [u64]) -> Taken
     requires { Holding words.old }
-    ensures { Takes (held_at at number (messageIn words.old) (lengthIn (drop at bytes.now) (varintIn (drop at bytes.now)))) result words.new }
+    ensures { Takes (held_at at number (message_in words.old) (length_in (drop at bytes.now) (varint_in (drop at bytes.now)))) result words.new }
 {
     let v = wire::read_varint(bytes, at);
     if v.fault != 0 {
@@ -201,7 +201,7 @@ fn fixed_field(bytes: &[u8], at: usize, number: u64, size: usize) -> Taken
 // One number after those of a list.
 fn single(value: u64, list: &mut [u64]) -> u64
     requires { Listing list.old }
-    ensures { Grows (grown (listIn list.old 0) (all (value ∷ []))) result list.new }
+    ensures { Grows (grown (list_in list.old 0) (all (value ∷ []))) result list.new }
 {
     let n = list[64] as usize;
     if 64 <= n {
@@ -215,7 +215,7 @@ fn single(value: u64, list: &mut [u64]) -> u64
 // Packed numbers after those of a list, those of one byte first. A cut one ends it; that one was over, or that there are more than 64, is told at the end.
 fn packed(bytes: &[u8], list: &mut [u64]) -> u64
     requires { Listing list.old }
-    ensures { Grows (grown (listIn list.old 0) (packedIn bytes.now)) result list.new }
+    ensures { Grows (grown (list_in list.old 0) (packedIn bytes.now)) result list.new }
 {
     let mut n = list[64] as usize;
     let mut over = false;

@@ -1,10 +1,10 @@
 // The writer: one encoding for each message. Refusals: 1, the words are no CONFSTATE; 2, a list over 64; 31, output too small.
 ghost use Rattle.std.specs.Prelude.{◌≡◌, ◌+◌, ◌*◌, ◌≤◌, ◌<◌, eqb, length};
-ghost use Rattle.rules.specs.Message.{packedOf, listField, flagField, encoded};
+ghost use Rattle.rules.specs.Message.{packed_of, list_field, flag_field, encoded};
 ghost use Rattle.text.specs.Put.{Put};
-ghost use Rattle.confstate.specs.Words.{listIn, messageIn};
-ghost use Rattle.confstate.specs.Entries.{writeAnswer, writeLeaves};
-ghost use Rattle.confstate.specs.Sizes.{refusalOf, sizesOf, fieldSize, total_of, Writable, Block, Listable};
+ghost use Rattle.confstate.specs.Words.{list_in, message_in};
+ghost use Rattle.confstate.specs.Entries.{write_answer, write_leaves};
+ghost use Rattle.confstate.specs.Sizes.{refusal_of, sizes_of, field_size, total_of, Writable, Block, Listable};
 
 use crate::{FLAG, LEARNERS, NEXT, OUTGOING, VOTERS, WORDS};
 
@@ -19,7 +19,7 @@ struct Sizes {
 
 // Writes the message to the front of `bytes`: its length. Else 2^32 and the refusal, and the bytes are as they were.
 pub fn write(conf_state: &[u64], bytes: &mut [u8]) -> u64
-    ensures { (result ≡ writeAnswer conf_state.now (length bytes.old)) × (bytes.new ≡ writeLeaves conf_state.now bytes.old) }
+    ensures { (result ≡ write_answer conf_state.now (length bytes.old)) × (bytes.new ≡ write_leaves conf_state.now bytes.old) }
 {
     let number = refusal(conf_state);
     if number != 0 {
@@ -34,7 +34,7 @@ pub fn write(conf_state: &[u64], bytes: &mut [u8]) -> u64
 
 // 1, 2, or 0.
 fn refusal(words: &[u64]) -> u64
-    ensures { result ≡ refusalOf words.now }
+    ensures { result ≡ refusal_of words.now }
 {
     if words.len() != WORDS {
         return 1;
@@ -60,7 +60,7 @@ fn refusal(words: &[u64]) -> u64
 // How many bytes the numbers of the four lists take.
 fn count(words: &[u64]) -> Sizes
     requires { Writable words.now }
-    ensures { result ≡ sizesOf (messageIn words.now) }
+    ensures { result ≡ sizes_of (message_in words.now) }
 {
     Sizes {
         voters: list_size(words, VOTERS),
@@ -73,7 +73,7 @@ fn count(words: &[u64]) -> Sizes
 // How many bytes the numbers of the list at word k take.
 fn list_size(words: &[u64], k: usize) -> usize
     requires { Block words.now k }
-    ensures { result ≡ length (packedOf (listIn words.now k)) }
+    ensures { result ≡ length (packed_of (list_in words.now k)) }
 {
     let n = words[k + 64] as usize;
     packed_size(&words[k..k + n])
@@ -82,7 +82,7 @@ fn list_size(words: &[u64], k: usize) -> usize
 // How many bytes the numbers take, one after the other.
 fn packed_size(ids: &[u64]) -> usize
     requires { length ids.now ≤ 64 }
-    ensures { result ≡ length (packedOf ids.now) }
+    ensures { result ≡ length (packed_of ids.now) }
 {
     let mut n = 0;
     let mut i = 0;
@@ -96,7 +96,7 @@ fn packed_size(ids: &[u64]) -> usize
 // How many bytes the field of a list takes whose numbers take so many.
 fn field_size(packed: usize) -> usize
     requires { packed ≤ 640 }
-    ensures { result ≡ fieldSize packed }
+    ensures { result ≡ field_size packed }
 {
     if packed == 0 {
         return 0;
@@ -118,8 +118,8 @@ fn total(s: Sizes, flag: u64) -> usize
 
 // The fields in the order of their numbers.
 fn put_message(out: &mut [u8], s: Sizes, words: &[u64]) -> usize
-    requires { Writable words.now × (s ≡ sizesOf (messageIn words.now)) × (length (encoded (messageIn words.now)) ≤ length out.old) }
-    ensures { Put out.old 0 (encoded (messageIn words.now)) out.new result }
+    requires { Writable words.now × (s ≡ sizes_of (message_in words.now)) × (length (encoded (message_in words.now)) ≤ length out.old) }
+    ensures { Put out.old 0 (encoded (message_in words.now)) out.new result }
 {
     let a = put_list(out, 0, 1, s.voters, words, VOTERS);
     let b = put_list(out, a, 2, s.learners, words, LEARNERS);
@@ -131,7 +131,7 @@ fn put_message(out: &mut [u8], s: Sizes, words: &[u64]) -> usize
 // The field of the list at word k: its tag, the length, the numbers. An empty list has none.
 fn put_list(out: &mut [u8], at: usize, number: u8, packed: usize, words: &[u64], k: usize) -> usize
     requires { Listable number at packed words.now k (length out.old) }
-    ensures { Put out.old at (listField number (listIn words.now k)) out.new result }
+    ensures { Put out.old at (list_field number (list_in words.now k)) out.new result }
 {
     if packed == 0 {
         return at;
@@ -144,8 +144,8 @@ fn put_list(out: &mut [u8], at: usize, number: u8, packed: usize, words: &[u64],
 
 // The numbers one after the other.
 fn put_packed(out: &mut [u8], at: usize, ids: &[u64]) -> usize
-    requires { at + length (packedOf ids.now) ≤ length out.old }
-    ensures { Put out.old at (packedOf ids.now) out.new result }
+    requires { at + length (packed_of ids.now) ≤ length out.old }
+    ensures { Put out.old at (packed_of ids.now) out.new result }
 {
     let mut p = at;
     let mut i = 0;
@@ -158,8 +158,8 @@ fn put_packed(out: &mut [u8], at: usize, ids: &[u64]) -> usize
 
 // The field of a flag that is set.
 fn put_flag(out: &mut [u8], at: usize, flag: u64) -> usize
-    requires { (flag ≤ 1) × (at + length (flagField (eqb flag 1)) ≤ length out.old) }
-    ensures { Put out.old at (flagField (eqb flag 1)) out.new result }
+    requires { (flag ≤ 1) × (at + length (flag_field (eqb flag 1)) ≤ length out.old) }
+    ensures { Put out.old at (flag_field (eqb flag 1)) out.new result }
 {
     if flag == 0 {
         return at;

@@ -7,10 +7,10 @@ use borrow.Author.Tests.{le-ltb}
 use lib.Dec.{eqb, ltb}
 use lib.ListN.{length, drop}
 use lib.Seq.{drop_at, take_at}
-use Rattle.rules.specs.Message.{messageRead, read}
+use Rattle.rules.specs.Message.{message_read, read}
 use Rattle.rules.proofs.Lists64.{message-few}
 use Rattle.rules.proofs.Below.{message-below}
-use Rattle.comparison.specs.Compare.{comparison, compareAnswer, compareLeaves, lines_read, refusal}
+use Rattle.comparison.specs.Compare.{comparison, compare_answer, compare_leaves, lines_read, refusal}
 use Rattle.comparison.proofs.Meaning.{equal-is-silent, silent-is-equal}
 use Rattle.comparison.proofs.Second.{second-is-told}
 use Rattle.comparison.proofs.Size.{lines-size}
@@ -20,10 +20,10 @@ use Rattle.demands.specs.Comparisons.{Tells, Printed, Compared, NotCompared, wri
 
 tells : (l m : List ℕ) → Tells l m (lines_read l m)
 tells l m = record {
-  silent = equal-is-silent (messageRead (read l)) (messageRead (read m));
-  equal = silent-is-equal (messageRead (read l)) (messageRead (read m));
-  told = second-is-told (messageRead (read l)) (messageRead (read m)) (message-below l) (message-below m);
-  size = lines-size (messageRead (read l)) (messageRead (read m)) (message-few l) (message-few m);
+  silent = equal-is-silent (message_read (read l)) (message_read (read m));
+  equal = silent-is-equal (message_read (read l)) (message_read (read m));
+  told = second-is-told (message_read (read l)) (message_read (read m)) (message-below l) (message-below m);
+  size = lines-size (message_read (read l)) (message_read (read m)) (message-few l) (message-few m);
 }
 
 -- ** Two files
@@ -38,25 +38,25 @@ unfolding comparison refusal
 printed readable l m = record {
   fault = λ e. rw e;
   lines = λ e. subst (Tells l m) (sym (lines-printed readable l m e)) (tells l m);
-  first-32 = λ e. rw e;
-  then-first = λ e f. rw (e, f);
-  then-second = λ e f. rw (e, f);
+  first_32 = λ e. rw e;
+  then_first = λ e f. rw (e, f);
+  then_second = λ e f. rw (e, f);
 }
 
 -- ** Two slices
 
 module _ (l m out : List ℕ) (e : refusal true l m ≡ 0) where
   pub no_room : ltb (length out) (length (lines_read l m)) ≡ true → NotCompared l m out 100
-  unfolding compareAnswer compareLeaves
+  unfolding compare_answer compare_leaves
   no_room h = record { answer = rw (e, h); untouched = rw (e, h) }
 
   module _ (h : length (lines_read l m) ≤ length out) where
-    answer : compareAnswer l m (length out) ≡ length (lines_read l m)
-    unfolding compareAnswer
+    answer : compare_answer l m (length out) ≡ length (lines_read l m)
+    unfolding compare_answer
     answer = rw (e, le-ltb (length out) (length (lines_read l m)) h)
 
-    leaves : compareLeaves l m out ≡ lines_read l m ++ drop (length (lines_read l m)) out
-    unfolding compareLeaves
+    leaves : compare_leaves l m out ≡ lines_read l m ++ drop (length (lines_read l m)) out
+    unfolding compare_leaves
     leaves = rw (e, le-ltb (length out) (length (lines_read l m)) h)
 
     all : written l m out ≡ lines_read l m
@@ -69,6 +69,6 @@ module _ (l m out : List ℕ) (e : refusal true l m ≡ 0) where
       kept = rw (answer, leaves) (drop_at (lines_read l m) (drop (length (lines_read l m)) out) (length (lines_read l m)) refl);
     }
 
-pub not-compared : (l m out : List ℕ) → eqb (refusal true l m) 0 ≡ false → NotCompared l m out (refusal true l m)
-unfolding compareAnswer compareLeaves
-not-compared l m out e = record { answer = rw e; untouched = rw e }
+pub not_compared : (l m out : List ℕ) → eqb (refusal true l m) 0 ≡ false → NotCompared l m out (refusal true l m)
+unfolding compare_answer compare_leaves
+not_compared l m out e = record { answer = rw e; untouched = rw e }

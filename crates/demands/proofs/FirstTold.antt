@@ -11,37 +11,37 @@ use Rattle.rules.specs.Ids.{is_empty}
 use Rattle.rules.specs.State.{State, formed, ids}
 use Rattle.rules.specs.Answers as R
 use Rattle.rules.specs.Answers.{Verdict, ◌⇒◌, ◌▸◌, accepted, each, fault, ok, refuse, refused, settle}
-use Rattle.rules.specs.Apply.{applied, applyConf, room, toConfState}
-use Rattle.rules.specs.Calls.{afterwards, difference, enterJoint, enterOf, entering, gone, leaveJoint, leaveOf, leaving, list_of, readable, removals, simple, simpleOf, start, withAuto}
-use Rattle.rules.specs.Changes.{Done, Work, changes, done, full, pendingTracked}
-use Rattle.rules.specs.Check.{check, checkState, isTracked, joint}
-use Rattle.rules.specs.Idle.{enterIdles, simpleIdles}
-use Rattle.rules.specs.Restore.{restoreSteps, run}
-use Rattle.rules.specs.Unplug.{straight, verdictIn, voterLeft}
+use Rattle.rules.specs.Apply.{applied, apply_conf, room, to_conf_state}
+use Rattle.rules.specs.Calls.{afterwards, difference, enter_joint, enter_of, entering, gone, leave_joint, leave_of, leaving, list_of, readable, removals, simple, simple_of, start, with_auto}
+use Rattle.rules.specs.Changes.{Done, Work, changes, done, full, pending_tracked}
+use Rattle.rules.specs.Check.{check, check_state, is_tracked, joint}
+use Rattle.rules.specs.Idle.{enter_idles, simple_idles}
+use Rattle.rules.specs.Restore.{restore_steps, run}
+use Rattle.rules.specs.Unplug.{straight, verdict_in, voter_left}
 use Rattle.tracker.specs.Apply as tracker
-use Rattle.tracker.specs.Apply.{applyOf, id_of, number_of, outcomeOf, refusedOf, verdictOf}
-use Rattle.tracker.specs.Bridge.{confOf, lists_of, logOf, state_of}
+use Rattle.tracker.specs.Apply.{apply_of, id_of, number_of, outcome_of, refused_of, verdict_of}
+use Rattle.tracker.specs.Bridge.{conf_of, lists_of, log_of, state_of}
 use Rattle.tracker.specs.ConfStates.{written_of}
-use Rattle.tracker.specs.Form.{confWellFormed, logWellFormed, trackerWellFormed}
+use Rattle.tracker.specs.Form.{conf_well_formed, log_well_formed, tracker_well_formed}
 use Rattle.tracker.specs.declared.ChangeLog.{ChangeLog}
 use Rattle.tracker.specs.declared.ConfState.{ConfState}
 use Rattle.tracker.specs.declared.Configuration.{Configuration}
 use Rattle.tracker.specs.declared.Tracker.{Tracker}
 use Rattle.tracker.specs.declared.Verdict as struct
-use Rattle.tracker.proofs.Bridge.{conf-formed, log-formed, tracker-formed}
-use Rattle.invariants.specs.Check.{checkOf}
-use Rattle.changer.specs.Calls.{answer_of, enterAnswer, ifFormed, leaveAnswer, simpleAnswer, unplugOf}
-use Rattle.restore.specs.Restore.{restoreOf, stepByStepOf, tooLong}
-use Rattle.restore.proofs.Restored.{stepped-runs}
-use Rattle.unplug.specs.Unplugs.{stateHoldsIn, stateIn, toldOf}
+use Rattle.tracker.proofs.Bridge.{conf-formed, log-formed, tracker_formed}
+use Rattle.invariants.specs.Check.{check_of}
+use Rattle.changer.specs.Calls.{answer_of, enter_answer, if_formed, leave_answer, simple_answer, unplug_of}
+use Rattle.restore.specs.Restore.{restore_of, step_by_step_of, too_long}
+use Rattle.restore.proofs.Restored.{stepped_runs}
+use Rattle.unplug.specs.Unplugs.{state_holds_in, state_in, told_of}
 use Rattle.unplug.specs.Words.{flag}
 use Rattle.unplug.specs.declared.Told.{Told}
 use Rattle.listing.specs.Sessions.{answer_in}
 use Rattle.listing.specs.declared.Session.{Session}
-use Rattle.calls.specs.Layout.{confAt, confStateAt, log_at, stateAt, word}
-use Rattle.calls.specs.Call.{ids_in, kindsIn, replyTo}
-use Rattle.calls.specs.Unplugs.{unplugAnswer, unplugLeaves}
-use Rattle.demands.specs.Numbers.{FirstTold, FirstToldByEntries, applyTests, checkTests, end_of, enterTests, first_of, leaveTests, noRoom, requestTests, restoreTests, simpleTests, told, toldReply, toldWords, toldWritten, turnTests, unplugTests, writeTests}
+use Rattle.calls.specs.Layout.{conf_at, conf_state_at, log_at, state_at, word}
+use Rattle.calls.specs.Call.{ids_in, kinds_in, reply_to}
+use Rattle.calls.specs.Unplugs.{unplug_answer, unplug_leaves}
+use Rattle.demands.specs.Numbers.{FirstTold, FirstToldByEntries, apply_tests, check_tests, end_of, enter_tests, first_of, leave_tests, no_room, request_tests, restore_tests, simple_tests, told, told_reply, told_words, told_written, turn_tests, unplug_tests, write_tests}
 use Rattle.demands.proofs.Unplugs.{unplugged}
 use Rattle.demands.proofs.Whole.{whole}
 
@@ -51,20 +51,20 @@ then_ok : (v : Verdict) → v ▸ ok ≡ v
 then_ok ok = refl
 then_ok (fault n x) = refl
 
-one : (a : Verdict) (x : R.Answer) → verdictIn (a ⇒ x) ≡ a ▸ verdictIn x
+one : (a : Verdict) (x : R.Answer) → verdict_in (a ⇒ x) ≡ a ▸ verdict_in x
 one ok x = refl
 one (fault n y) x = refl
 
-two : (a b : Verdict) (x : R.Answer) → verdictIn ((a ▸ b) ⇒ x) ≡ a ▸ (b ▸ verdictIn x)
+two : (a b : Verdict) (x : R.Answer) → verdict_in ((a ▸ b) ⇒ x) ≡ a ▸ (b ▸ verdict_in x)
 two ok b x = one b x
 two (fault n y) b x = refl
 
-three : (a b c : Verdict) (x : R.Answer) → verdictIn ((a ▸ b ▸ c) ⇒ x) ≡ a ▸ (b ▸ (c ▸ verdictIn x))
+three : (a b c : Verdict) (x : R.Answer) → verdict_in ((a ▸ b ▸ c) ⇒ x) ≡ a ▸ (b ▸ (c ▸ verdict_in x))
 three ok b c x = two b c x
 three (fault n y) b c x = refl
 
 -- the list in between
-listed : (d : Done) (b : Work) (k : Work → R.Answer) → verdictIn (afterwards d k) ≡ noRoom d ▸ verdictIn (k (end_of d b))
+listed : (d : Done) (b : Work) (k : Work → R.Answer) → verdict_in (afterwards d k) ≡ no_room d ▸ verdict_in (k (end_of d b))
 listed (done w) b k = refl
 listed (full x) b k = refl
 
@@ -78,45 +78,45 @@ module _ (s : State) (f : formed s ≡ true) (xs ks : List ℕ) where
   unknown = each (λ k. refuse (ltb 2 k) 3 0) ks
 
   abbrev own : Verdict
-  own = check (isTracked s) s.conf
+  own = check (is_tracked s) s.conf
 
-  simple-tests : verdictIn (simple s xs ks)
+  simple_tests_lem : verdict_in (simple s xs ks)
       ≡ (let d : Done = changes (ids s.peers) (list_of xs ks) (start s.conf) in
       let w : Work = end_of d (start s.conf) in
-      uneven ▸ (unknown ▸ (refuse (joint s.conf) 6 0 ▸ (own ▸ (noRoom d ▸ (refuse (is_empty w.conf.incoming) 17 0
-      ▸ (refuse (leb 2 (difference w.conf.incoming s.conf.incoming)) 18 0 ▸ (check (pendingTracked (ids s.peers) w.log) w.conf ▸ ok))))))))
-  unfolding simple simpleOf readable
-  simple-tests =
+      uneven ▸ (unknown ▸ (refuse (joint s.conf) 6 0 ▸ (own ▸ (no_room d ▸ (refuse (is_empty w.conf.incoming) 17 0
+      ▸ (refuse (leb 2 (difference w.conf.incoming s.conf.incoming)) 18 0 ▸ (check (pending_tracked (ids s.peers) w.log) w.conf ▸ ok))))))))
+  unfolding simple simple_of readable
+  simple_tests_lem =
       let d : Done = changes (ids s.peers) (list_of xs ks) (start s.conf) in
       let w : Work = end_of d (start s.conf) in
       rw f
       (two uneven unknown _
       ∙ ap (λ (v : Verdict). uneven ▸ (unknown ▸ v)) (two (refuse (joint s.conf) 6 0) own _
       ∙ ap (λ (v : Verdict). refuse (joint s.conf) 6 0 ▸ (own ▸ v)) (listed d (start s.conf) _
-      ∙ ap (λ (v : Verdict). noRoom d ▸ v)
-      (three (refuse (is_empty w.conf.incoming) 17 0) (refuse (leb 2 (difference w.conf.incoming s.conf.incoming)) 18 0) (check (pendingTracked (ids s.peers) w.log) w.conf) (accepted w.conf w.log)))))
+      ∙ ap (λ (v : Verdict). no_room d ▸ v)
+      (three (refuse (is_empty w.conf.incoming) 17 0) (refuse (leb 2 (difference w.conf.incoming s.conf.incoming)) 18 0) (check (pending_tracked (ids s.peers) w.log) w.conf) (accepted w.conf w.log)))))
 
-  enter-tests : (auto : Bool) → verdictIn (enterJoint s auto xs ks)
+  enter_tests_lem : (auto : Bool) → verdict_in (enter_joint s auto xs ks)
       ≡ (let d : Done = changes (ids s.peers) (list_of xs ks) (start (entering s.conf)) in
       let w : Work = end_of d (start (entering s.conf)) in
-      uneven ▸ (unknown ▸ (refuse (joint s.conf) 4 0 ▸ (own ▸ (refuse (is_empty s.conf.incoming) 15 0 ▸ (noRoom d ▸ (refuse (is_empty w.conf.incoming) 17 0
-      ▸ (check (pendingTracked (ids s.peers) w.log) (withAuto auto w.conf) ▸ ok))))))))
-  unfolding enterJoint enterOf readable
-  enter-tests auto =
+      uneven ▸ (unknown ▸ (refuse (joint s.conf) 4 0 ▸ (own ▸ (refuse (is_empty s.conf.incoming) 15 0 ▸ (no_room d ▸ (refuse (is_empty w.conf.incoming) 17 0
+      ▸ (check (pending_tracked (ids s.peers) w.log) (with_auto auto w.conf) ▸ ok))))))))
+  unfolding enter_joint enter_of readable
+  enter_tests_lem auto =
       let d : Done = changes (ids s.peers) (list_of xs ks) (start (entering s.conf)) in
       let w : Work = end_of d (start (entering s.conf)) in
       rw f
       (two uneven unknown _
       ∙ ap (λ (v : Verdict). uneven ▸ (unknown ▸ v)) (three (refuse (joint s.conf) 4 0) own (refuse (is_empty s.conf.incoming) 15 0) _
       ∙ ap (λ (v : Verdict). refuse (joint s.conf) 4 0 ▸ (own ▸ (refuse (is_empty s.conf.incoming) 15 0 ▸ v))) (listed d (start (entering s.conf)) _
-      ∙ ap (λ (v : Verdict). noRoom d ▸ v)
-      (two (refuse (is_empty w.conf.incoming) 17 0) (check (pendingTracked (ids s.peers) w.log) (withAuto auto w.conf)) (accepted (withAuto auto w.conf) w.log)))))
+      ∙ ap (λ (v : Verdict). no_room d ▸ v)
+      (two (refuse (is_empty w.conf.incoming) 17 0) (check (pending_tracked (ids s.peers) w.log) (with_auto auto w.conf)) (accepted (with_auto auto w.conf) w.log)))))
 
-leave-tests : (s : State) → formed s ≡ true → verdictIn (leaveJoint s)
-    ≡ refuse (not (joint s.conf)) 5 0 ▸ (check (isTracked s) s.conf ▸ (check (pendingTracked (ids s.peers) (removals (gone s.conf))) (leaving s.conf) ▸ ok))
-unfolding leaveJoint leaveOf
-leave-tests s f =
-    rw f (three (refuse (not (joint s.conf)) 5 0) (check (isTracked s) s.conf) (check (pendingTracked (ids s.peers) (removals (gone s.conf))) (leaving s.conf)) _)
+leave_tests_lem : (s : State) → formed s ≡ true → verdict_in (leave_joint s)
+    ≡ refuse (not (joint s.conf)) 5 0 ▸ (check (is_tracked s) s.conf ▸ (check (pending_tracked (ids s.peers) (removals (gone s.conf))) (leaving s.conf) ▸ ok))
+unfolding leave_joint leave_of
+leave_tests_lem s f =
+    rw f (three (refuse (not (joint s.conf)) 5 0) (check (is_tracked s) s.conf) (check (pending_tracked (ids s.peers) (removals (gone s.conf))) (leaving s.conf)) _)
 
 -- ** Of a tracker
 
@@ -125,92 +125,92 @@ module _ (t : Tracker) where
   s = state_of t
 
   abbrev malformed : Verdict
-  malformed = refuse (not (trackerWellFormed t)) 1 0
+  malformed = refuse (not (tracker_well_formed t)) 1 0
 
   -- 1, and then the rules' tests
-  answer-told : (i : ℕ) (a : R.Answer) (v : Verdict) → (formed s ≡ true → verdictIn a ≡ v) → told (ifFormed t i a) ≡ verdictOf (malformed ▸ v)
-  answer-told i a v h = go (trackerWellFormed t) refl
+  answer-told : (i : ℕ) (a : R.Answer) (v : Verdict) → (formed s ≡ true → verdict_in a ≡ v) → told (if_formed t i a) ≡ verdict_of (malformed ▸ v)
+  answer-told i a v h = go (tracker_well_formed t) refl
     where
-      of : (a : R.Answer) → told (answer_of t.conf i a) ≡ verdictOf (verdictIn a)
+      of : (a : R.Answer) → told (answer_of t.conf i a) ≡ verdict_of (verdict_in a)
       of (accepted c log) = refl
       of (refused n x) = refl
 
-      go : (b : Bool) → trackerWellFormed t ≡ b → told (cond b (answer_of t.conf i a) (answer_of t.conf 0 (refused 1 0))) ≡ verdictOf (refuse (not b) 1 0 ▸ v)
-      go true w = of a ∙ ap verdictOf (h (tracker-formed t w))
+      go : (b : Bool) → tracker_well_formed t ≡ b → told (cond b (answer_of t.conf i a) (answer_of t.conf 0 (refused 1 0))) ≡ verdict_of (refuse (not b) 1 0 ▸ v)
+      go true w = of a ∙ ap verdict_of (h (tracker_formed t w))
       go false w = refl
 
-  simple-told : (xs ks : List ℕ) → told (simpleAnswer t xs ks) ≡ verdictOf (first_of (simpleTests t xs ks))
-  unfolding simpleAnswer simpleTests first_of
-  simple-told xs ks = answer-told (simpleIdles s xs ks) (simple s xs ks) _ (λ f. simple-tests s f xs ks)
+  simple-told : (xs ks : List ℕ) → told (simple_answer t xs ks) ≡ verdict_of (first_of (simple_tests t xs ks))
+  unfolding simple_answer simple_tests first_of
+  simple-told xs ks = answer-told (simple_idles s xs ks) (simple s xs ks) _ (λ f. simple_tests_lem s f xs ks)
 
-  enter-told : (auto : Bool) (xs ks : List ℕ) → told (enterAnswer t auto xs ks) ≡ verdictOf (first_of (enterTests t auto xs ks))
-  unfolding enterAnswer enterTests first_of
-  enter-told auto xs ks = answer-told (enterIdles s auto xs ks) (enterJoint s auto xs ks) _ (λ f. enter-tests s f xs ks auto)
+  enter-told : (auto : Bool) (xs ks : List ℕ) → told (enter_answer t auto xs ks) ≡ verdict_of (first_of (enter_tests t auto xs ks))
+  unfolding enter_answer enter_tests first_of
+  enter-told auto xs ks = answer-told (enter_idles s auto xs ks) (enter_joint s auto xs ks) _ (λ f. enter_tests_lem s f xs ks auto)
 
-  leave-told : told (leaveAnswer t) ≡ verdictOf (first_of (leaveTests t))
-  unfolding leaveAnswer leaveTests first_of
-  leave-told = answer-told 0 (leaveJoint s) _ (leave-tests s)
+  leave-told : told (leave_answer t) ≡ verdict_of (first_of (leave_tests t))
+  unfolding leave_answer leave_tests first_of
+  leave-told = answer-told 0 (leave_joint s) _ (leave_tests_lem s)
 
-  check-told : checkOf t ≡ verdictOf (first_of (checkTests t))
-  unfolding checkOf checkState checkTests first_of
-  check-told = go (trackerWellFormed t) refl
+  check-told : check_of t ≡ verdict_of (first_of (check_tests t))
+  unfolding check_of check_state check_tests first_of
+  check-told = go (tracker_well_formed t) refl
     where
-      go : (b : Bool) → trackerWellFormed t ≡ b
-          → cond b (verdictOf (refuse (not (formed s)) 1 0 ▸ check (isTracked s) s.conf)) (verdictOf (fault 1 0)) ≡ verdictOf (refuse (not b) 1 0 ▸ (check (isTracked s) s.conf ▸ ok))
-      go true w = rw (tracker-formed t w, then_ok (check (isTracked s) s.conf))
+      go : (b : Bool) → tracker_well_formed t ≡ b
+          → cond b (verdict_of (refuse (not (formed s)) 1 0 ▸ check (is_tracked s) s.conf)) (verdict_of (fault 1 0)) ≡ verdict_of (refuse (not b) 1 0 ▸ (check (is_tracked s) s.conf ▸ ok))
+      go true w = rw (tracker_formed t w, then_ok (check (is_tracked s) s.conf))
       go false w = refl
 
-  write-told : toldWritten (written_of t) ≡ verdictOf (first_of (writeTests t))
-  unfolding written_of toConfState first_of
-  write-told = go (trackerWellFormed t) refl
+  write_told : told_written (written_of t) ≡ verdict_of (first_of (write_tests t))
+  unfolding written_of to_conf_state first_of
+  write_told = go (tracker_well_formed t) refl
     where
-      go : (b : Bool) → trackerWellFormed t ≡ b → toldWritten (written_of t) ≡ verdictOf (refuse (not b) 1 0 ▸ ok)
-      go true w = rw (w, tracker-formed t w)
+      go : (b : Bool) → tracker_well_formed t ≡ b → told_written (written_of t) ≡ verdict_of (refuse (not b) 1 0 ▸ ok)
+      go true w = rw (w, tracker_formed t w)
       go false w = rw w
 
-  apply-told : (c : Configuration) (log : ChangeLog) (n : ℕ) → tracker.verdictIn (applyOf t c log n) ≡ verdictOf (first_of (applyTests t c log))
-  unfolding applyOf applyConf applyTests first_of
-  apply-told c log n = go (trackerWellFormed t) (confWellFormed c) (logWellFormed log) refl refl refl
+  apply-told : (c : Configuration) (log : ChangeLog) (n : ℕ) → tracker.verdict_in (apply_of t c log n) ≡ verdict_of (first_of (apply_tests t c log))
+  unfolding apply_of apply_conf apply_tests first_of
+  apply-told c log n = go (tracker_well_formed t) (conf_well_formed c) (log_well_formed log) refl refl refl
     where
       fits : Verdict
-      fits = room (logOf log) (ids s.peers)
+      fits = room (log_of log) (ids s.peers)
 
-      of : (v : Verdict) (u : State) → tracker.verdictIn (outcomeOf (settle v s u)) ≡ verdictOf (v ▸ ok)
+      of : (v : Verdict) (u : State) → tracker.verdict_in (outcome_of (settle v s u)) ≡ verdict_of (v ▸ ok)
       of ok u = refl
       of (fault m x) u = refl
 
-      go : (a b d : Bool) → trackerWellFormed t ≡ a → confWellFormed c ≡ b → logWellFormed log ≡ d
-          → tracker.verdictIn (cond (a && b && d) (outcomeOf (applyConf s (confOf c) (logOf log) n)) (refusedOf t 1 0)) ≡ verdictOf (refuse (not a || not b || not d) 1 0 ▸ (fits ▸ ok))
-      go true true true p q r = rw (tracker-formed t p, conf-formed c q, log-formed log r) (of fits (applied s (confOf c) (logOf log) n))
+      go : (a b d : Bool) → tracker_well_formed t ≡ a → conf_well_formed c ≡ b → log_well_formed log ≡ d
+          → tracker.verdict_in (cond (a && b && d) (outcome_of (apply_conf s (conf_of c) (log_of log) n)) (refused_of t 1 0)) ≡ verdict_of (refuse (not a || not b || not d) 1 0 ▸ (fits ▸ ok))
+      go true true true p q r = rw (tracker_formed t p, conf-formed c q, log-formed log r) (of fits (applied s (conf_of c) (log_of log) n))
       go false b d p q r = refl
       go true false d p q r = refl
       go true true false p q r = refl
 
-  steps-told : (cs : ConfState) (n : ℕ) → tracker.verdictIn (stepByStepOf t cs n) ≡ verdictOf (first_of (restoreTests t cs n))
-  unfolding stepByStepOf restoreTests first_of
-  steps-told cs n = go (trackerWellFormed t) (tooLong cs) refl refl
+  steps-told : (cs : ConfState) (n : ℕ) → tracker.verdict_in (step_by_step_of t cs n) ≡ verdict_of (first_of (restore_tests t cs n))
+  unfolding step_by_step_of restore_tests first_of
+  steps-told cs n = go (tracker_well_formed t) (too_long cs) refl refl
     where
       ran : Verdict
-      ran = (run n s (restoreSteps (lists_of cs))).verdict
+      ran = (run n s (restore_steps (lists_of cs))).verdict
 
-      go : (a b : Bool) → trackerWellFormed t ≡ a → tooLong cs ≡ b → tracker.verdictIn (stepByStepOf t cs n) ≡ verdictOf (refuse (not a) 1 0 ▸ (refuse b 2 0 ▸ (ran ▸ ok)))
+      go : (a b : Bool) → tracker_well_formed t ≡ a → too_long cs ≡ b → tracker.verdict_in (step_by_step_of t cs n) ≡ verdict_of (refuse (not a) 1 0 ▸ (refuse b 2 0 ▸ (ran ▸ ok)))
       go true true p q = rw (p, q)
-      go true false p q = ap tracker.verdictIn (stepped-runs t p cs q n) ∙ rw (then_ok ran)
+      go true false p q = ap tracker.verdict_in (stepped_runs t p cs q n) ∙ rw (then_ok ran)
       go false b p q = rw p
 
-  restore-told : (cs : ConfState) (n : ℕ) → tracker.verdictIn (restoreOf t cs n) ≡ verdictOf (first_of (restoreTests t cs n))
+  restore-told : (cs : ConfState) (n : ℕ) → tracker.verdict_in (restore_of t cs n) ≡ verdict_of (first_of (restore_tests t cs n))
   restore-told cs n = rw ((whole t cs n).number, (whole t cs n).id) (steps-told cs n)
 
-  unplug-told : (x : ℕ) → unplugOf t x ≡ verdictOf (first_of (unplugTests t x))
-  unfolding straight unplugTests first_of
-  unplug-told x = go (trackerWellFormed t) refl
+  unplug-told : (x : ℕ) → unplug_of t x ≡ verdict_of (first_of (unplug_tests t x))
+  unfolding straight unplug_tests first_of
+  unplug-told x = go (tracker_well_formed t) refl
     where
       more : (a b c : Verdict) → a ▸ b ▸ c ≡ a ▸ (b ▸ (c ▸ ok))
       more a b c = ap (λ (v : Verdict). a ▸ (b ▸ v)) (sym (then_ok c))
 
-      go : (b : Bool) → trackerWellFormed t ≡ b
-          → unplugOf t x ≡ verdictOf (refuse (not b) 1 0 ▸ (refuse (joint s.conf) 6 0 ▸ (check (isTracked s) s.conf ▸ (refuse (not (voterLeft x s.conf.incoming)) 17 0 ▸ ok))))
-      go true w = (unplugged t x).well-formed w ∙ rw (tracker-formed t w) (ap verdictOf (more (refuse (joint s.conf) 6 0) (check (isTracked s) s.conf) (refuse (not (voterLeft x s.conf.incoming)) 17 0)))
+      go : (b : Bool) → tracker_well_formed t ≡ b
+          → unplug_of t x ≡ verdict_of (refuse (not b) 1 0 ▸ (refuse (joint s.conf) 6 0 ▸ (check (is_tracked s) s.conf ▸ (refuse (not (voter_left x s.conf.incoming)) 17 0 ▸ ok))))
+      go true w = (unplugged t x).well_formed_lem w ∙ rw (tracker_formed t w) (ap verdict_of (more (refuse (joint s.conf) 6 0) (check (is_tracked s) s.conf) (refuse (not (voter_left x s.conf.incoming)) 17 0)))
       go false w = (unplugged t x).malformed w
 
   pub first-told : FirstTold t
@@ -221,7 +221,7 @@ module _ (t : Tracker) where
         enter = enter-told;
         leave = leave-told;
         apply = apply-told;
-        to-conf-state = write-told;
+        to-conf-state = write_told;
         restore = restore-told;
         restore-step-by-step = steps-told;
         unplug = unplug-told;
@@ -230,55 +230,55 @@ module _ (t : Tracker) where
 -- ** Through the entries
 
 -- either of two
-either : {A : Type 0} (of : A → struct.Verdict) (b : Bool) (x y : A) (xs ys : List Verdict) → of x ≡ verdictOf (first_of xs) → of y ≡ verdictOf (first_of ys) → of (cond b x y) ≡ verdictOf (first_of (cond b xs ys))
+either : {A : Type 0} (of : A → struct.Verdict) (b : Bool) (x y : A) (xs ys : List Verdict) → of x ≡ verdict_of (first_of xs) → of y ≡ verdict_of (first_of ys) → of (cond b x y) ≡ verdict_of (first_of (cond b xs ys))
 either of true x y xs ys h k = h
 either of false x y xs ys h k = k
 
 -- either of two with the same tests
-both : {A : Type 0} (of : A → struct.Verdict) (b : Bool) (x y : A) (xs : List Verdict) → of x ≡ verdictOf (first_of xs) → of y ≡ verdictOf (first_of xs) → of (cond b x y) ≡ verdictOf (first_of xs)
+both : {A : Type 0} (of : A → struct.Verdict) (b : Bool) (x y : A) (xs : List Verdict) → of x ≡ verdict_of (first_of xs) → of y ≡ verdict_of (first_of xs) → of (cond b x y) ≡ verdict_of (first_of xs)
 both of true x y xs h k = h
 both of false x y xs h k = k
 
-reply-told : (s : List ℕ) → toldReply (replyTo s) ≡ verdictOf (first_of (requestTests s))
-unfolding replyTo requestTests first_of
+reply-told : (s : List ℕ) → told_reply (reply_to s) ≡ verdict_of (first_of (request_tests s))
+unfolding reply_to request_tests first_of
 reply-told s =
-    let t : Tracker = stateAt s 1 in
-    either toldReply (eqb (word s 0) 0) _ _ (checkTests t) _ (check-told t)
-    (either toldReply (eqb (word s 0) 1) _ _ [] _ refl
-    (either toldReply (eqb (word s 0) 2) _ _ (simpleTests t (ids_in s) (kindsIn s)) _ (simple-told t (ids_in s) (kindsIn s))
-    (either toldReply (eqb (word s 0) 3) _ _ (enterTests t (flag (word s 968)) (ids_in s) (kindsIn s)) _ (enter-told t (flag (word s 968)) (ids_in s) (kindsIn s))
-    (either toldReply (eqb (word s 0) 4) _ _ (leaveTests t) _ (leave-told t)
-    (either toldReply (eqb (word s 0) 5) _ _ (applyTests t (confAt s 1492) (log_at s 1753)) _ (apply-told t (confAt s 1492) (log_at s 1753) (word s 969))
-    (either toldReply (eqb (word s 0) 6) _ _ (writeTests t) _ (write-told t)
-    (both toldReply (eqb (word s 0) 7) _ _ (restoreTests t (confStateAt s 2266) (word s 969)) (restore-told t (confStateAt s 2266) (word s 969)) (steps-told t (confStateAt s 2266) (word s 969)))))))))
+    let t : Tracker = state_at s 1 in
+    either told_reply (eqb (word s 0) 0) _ _ (check_tests t) _ (check-told t)
+    (either told_reply (eqb (word s 0) 1) _ _ [] _ refl
+    (either told_reply (eqb (word s 0) 2) _ _ (simple_tests t (ids_in s) (kinds_in s)) _ (simple-told t (ids_in s) (kinds_in s))
+    (either told_reply (eqb (word s 0) 3) _ _ (enter_tests t (flag (word s 968)) (ids_in s) (kinds_in s)) _ (enter-told t (flag (word s 968)) (ids_in s) (kinds_in s))
+    (either told_reply (eqb (word s 0) 4) _ _ (leave_tests t) _ (leave-told t)
+    (either told_reply (eqb (word s 0) 5) _ _ (apply_tests t (conf_at s 1492) (log_at s 1753)) _ (apply-told t (conf_at s 1492) (log_at s 1753) (word s 969))
+    (either told_reply (eqb (word s 0) 6) _ _ (write_tests t) _ (write_told t)
+    (both told_reply (eqb (word s 0) 7) _ _ (restore_tests t (conf_state_at s 2266) (word s 969)) (restore-told t (conf_state_at s 2266) (word s 969)) (steps-told t (conf_state_at s 2266) (word s 969)))))))))
 
-unplug-words : (state : List ℕ) (x : ℕ) → (toldOf state x).returned ≡ 0 → toldWords (toldOf state x) ≡ verdictOf (first_of (unplugTests (stateIn state) x))
-unfolding toldOf
-unplug-words state x = go (not (eqb (length state) 967)) (not (stateHoldsIn state))
+unplug-words : (state : List ℕ) (x : ℕ) → (told_of state x).returned ≡ 0 → told_words (told_of state x) ≡ verdict_of (first_of (unplug_tests (state_in state) x))
+unfolding told_of
+unplug-words state x = go (not (eqb (length state) 967)) (not (state_holds_in state))
   where
     u : Tracker
-    u = stateIn state
+    u = state_in state
 
     of : Bool → Bool → Told
-    of a b = cond a (record { returned = 1; number = 0; id = 0 }) (cond b (record { returned = 4; number = 0; id = 0 }) (record { returned = 0; number = (unplugOf u x).number; id = (unplugOf u x).id }))
+    of a b = cond a (record { returned = 1; number = 0; id = 0 }) (cond b (record { returned = 4; number = 0; id = 0 }) (record { returned = 0; number = (unplug_of u x).number; id = (unplug_of u x).id }))
 
-    go : (a b : Bool) → (of a b).returned ≡ 0 → toldWords (of a b) ≡ verdictOf (first_of (unplugTests u x))
+    go : (a b : Bool) → (of a b).returned ≡ 0 → told_words (of a b) ≡ verdict_of (first_of (unplug_tests u x))
     go true b h = absurd (omega arith)
     go false true h = absurd (omega arith)
     go false false h = unplug-told u x
 
-words-told : (state verdict : List ℕ) (x : ℕ) → unplugAnswer state (length verdict) ≡ 0
-    → take 2 (unplugLeaves state x verdict) ≡ number_of (first_of (unplugTests (stateIn state) x)) ∷ id_of (first_of (unplugTests (stateIn state) x)) ∷ []
-unfolding unplugLeaves
+words-told : (state verdict : List ℕ) (x : ℕ) → unplug_answer state (length verdict) ≡ 0
+    → take 2 (unplug_leaves state x verdict) ≡ number_of (first_of (unplug_tests (state_in state) x)) ∷ id_of (first_of (unplug_tests (state_in state) x)) ∷ []
+unfolding unplug_leaves
 words-told state verdict x h =
-    rw (eq-eqb (unplugAnswer state (length verdict)) 0 h) (ap (λ (v : struct.Verdict). v.number ∷ v.id ∷ []) (unplug-told (stateIn state) x))
+    rw (eq-eqb (unplug_answer state (length verdict)) 0 h) (ap (λ (v : struct.Verdict). v.number ∷ v.id ∷ []) (unplug-told (state_in state) x))
 
-turn-told : (z : Session) (kind : ℕ) → told (answer_in z kind) ≡ verdictOf (first_of (turnTests z kind))
-unfolding answer_in turnTests
-turn-told z kind =
-    either told (eqb kind 6) _ _ (leaveTests z.tracker) _ (leave-told z.tracker)
-    (either told (eqb kind 3) _ _ (simpleTests z.tracker (take z.len z.ids) (take z.len z.kinds)) _ (simple-told z.tracker (take z.len z.ids) (take z.len z.kinds))
+turn_told : (z : Session) (kind : ℕ) → told (answer_in z kind) ≡ verdict_of (first_of (turn_tests z kind))
+unfolding answer_in turn_tests
+turn_told z kind =
+    either told (eqb kind 6) _ _ (leave_tests z.tracker) _ (leave-told z.tracker)
+    (either told (eqb kind 3) _ _ (simple_tests z.tracker (take z.len z.ids) (take z.len z.kinds)) _ (simple-told z.tracker (take z.len z.ids) (take z.len z.kinds))
     (enter-told z.tracker (eqb kind 5) (take z.len z.ids) (take z.len z.kinds)))
 
-pub entries-told : FirstToldByEntries
-entries-told = record { dimecandle-call = reply-told; unplug = unplug-words; dimecandle-unplug = words-told; replay-turn = turn-told }
+pub entries_told : FirstToldByEntries
+entries_told = record { dimecandle_call = reply-told; unplug = unplug-words; dimecandle_unplug = words-told; replay_turn = turn_told }

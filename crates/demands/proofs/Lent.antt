@@ -62,11 +62,11 @@ text = search put-settled
 -- ** listing
 
 pub record Listings : Type 0 where
-  pub dimecandle-replay : SettlesWith listing-replay.Learnt (λ κs e. e.1.0.now)
+  pub dimecandle_replay : SettlesWith listing-replay.Learnt (λ κs e. e.1.0.now)
   pub begin : Settles listing-begin.Learnt
   pub stops : Settles listing-stops.Learnt
   pub turn : SettlesWith listing-turn.Learnt (λ κs e. e.0.now)
-  pub put-stopped : SettlesWith listing-put-stopped.Learnt (λ κs e. e.0.now)
+  pub put_stopped : SettlesWith listing-put-stopped.Learnt (λ κs e. e.0.now)
   pub put-ending : SettlesWith listing-put-ending.Learnt (λ κs e. e.0.now)
   pub number_at : Settles listing-number-at.Learnt
   pub put-answer : SettlesWith listing-put-answer.Learnt (λ κs e. e.0.now)
@@ -101,15 +101,15 @@ messages = search (equation, put-settled, both)
 -- ** calls
 
 pub record Entries : Type 0 where
-  pub dimecandle-call : SettlesWith calls-call.Learnt (λ κs e. e.1.0.now)
-  pub dimecandle-unplug : SettlesWith calls-unplug.Learnt (λ κs e. e.1.1.0.now)
-  pub dimecandle-read-conf-state : SettlesWith calls-read-conf-state.Learnt (λ κs e. e.1.0.now)
-  pub dimecandle-write-conf-state : SettlesWith calls-write-conf-state.Learnt (λ κs e. e.1.0.now)
-  pub dimecandle-compare : SettlesWith calls-compare.Learnt (λ κs e. e.1.1.0.now)
+  pub dimecandle_call : SettlesWith calls-call.Learnt (λ κs e. e.1.0.now)
+  pub dimecandle_unplug : SettlesWith calls-unplug.Learnt (λ κs e. e.1.1.0.now)
+  pub dimecandle_read_conf_state : SettlesWith calls-read-conf-state.Learnt (λ κs e. e.1.0.now)
+  pub dimecandle_write_conf_state : SettlesWith calls-write-conf-state.Learnt (λ κs e. e.1.0.now)
+  pub dimecandle_compare : SettlesWith calls-compare.Learnt (λ κs e. e.1.1.0.now)
   pub word : Settles calls-word.Learnt
   pub holds : Settles calls-holds.Learnt
   pub state : Settles calls-state.Learnt
-  pub change-list : Settles calls-change-list.Learnt
+  pub change_list : Settles calls-change-list.Learnt
   pub conf : Settles calls-conf.Learnt
   pub log : Settles calls-log.Learnt
   pub conf-state : Settles calls-conf-state.Learnt

@@ -6,29 +6,29 @@ use mathlib.Core.List.{List}
 use borrow.Author.Tests.{le-ltb}
 use lib.ListN.{length}
 use Rattle.rules.specs.Ids.{ascending, memb}
-use Rattle.rules.specs.State.{State, confFormed, formed, fresh, ids, noConf}
+use Rattle.rules.specs.State.{State, conf_formed, formed, fresh, ids, no_conf}
 use Rattle.rules.specs.State as lists
 use Rattle.rules.specs.Answers as R
-use Rattle.rules.specs.Apply.{toConfState, written}
-use Rattle.rules.specs.Boxes.{recordOf}
+use Rattle.rules.specs.Apply.{to_conf_state, written}
+use Rattle.rules.specs.Boxes.{record_of}
 use Rattle.rules.specs.Demands as demands
 use Rattle.rules.specs.Restore.{restore}
 use Rattle.rules.specs.Sequences as rules
-use Rattle.rules.proofs.Theorems.{empty-configuration-comes-back, reached-comes-back}
-use Rattle.idset.specs.Set.{held, setOf}
-use Rattle.tracker.specs.Apply.{number_of, outcomeOf}
-use Rattle.tracker.specs.Bridge.{confOf, confStateOf, configurationOf, lists_of, peersOf, recordPlaces, state_of, trackerOf}
+use Rattle.rules.proofs.Theorems.{empty_configuration_comes_back, reached_comes_back}
+use Rattle.idset.specs.Set.{held, set_of}
+use Rattle.tracker.specs.Apply.{number_of, outcome_of}
+use Rattle.tracker.specs.Bridge.{conf_of, conf_state_of, configuration_of, lists_of, peers_of, record_places, state_of, tracker_of}
 use Rattle.tracker.specs.ConfStates.{written_of}
-use Rattle.tracker.specs.Form.{trackerWellFormed}
+use Rattle.tracker.specs.Form.{tracker_well_formed}
 use Rattle.tracker.specs.declared.Outcome.{Outcome}
 use Rattle.tracker.specs.declared.Written.{Written}
 use Rattle.tracker.specs.declared.Tracker.{Tracker}
 use Rattle.idset.proofs.Bridge.{held-few}
-use Rattle.tracker.proofs.Bridge.{Sets, conf-sets, lists_back, roster-set, rostered, state-back, tracked-ids, tracker-formed, tracker-parts, tracker-well, unit-conf}
+use Rattle.tracker.proofs.Bridge.{Sets, conf-sets, lists_back, roster_set, rostered, state-back, tracked-ids, tracker_formed, tracker_parts, tracker_well, unit_conf}
 use Rattle.tracker.proofs.Peers.{peers-records}
-use Rattle.restore.specs.Restore.{restoreOf, tooLong}
+use Rattle.restore.specs.Restore.{restore_of, too_long}
 use Rattle.restore.proofs.Restored.{restored}
-use Rattle.demands.specs.Sequences.{Call, afterCalls}
+use Rattle.demands.specs.Sequences.{Call, after_calls}
 use Rattle.demands.specs.Demands.{ComesBack, EmptyComesBack}
 use Rattle.demands.proofs.Carried.{Carried, carried, plain}
 use Rattle.demands.proofs.Whole.{whole}
@@ -36,7 +36,7 @@ use Rattle.demands.proofs.Whole.{whole}
 -- ** The fresh tracker
 
 pub fresh-formed : (m : ℕ) → formed (fresh m) ≡ true
-unfolding formed confFormed ascending ids
+unfolding formed conf_formed ascending ids
 fresh-formed m = refl
 
 -- ** A well-formed tracker, written out and restored
@@ -45,17 +45,17 @@ fresh-formed m = refl
 record Short (k : lists.ConfState) : Type 0 where
   voters : length k.voters ≤ 64
   learners : length k.learners ≤ 64
-  outgoing : length k.votersOutgoing ≤ 64
-  staged : length k.learnersNext ≤ 64
+  outgoing : length k.voters_outgoing ≤ 64
+  staged : length k.learners_next ≤ 64
 
-module _ (u : Tracker) (w : trackerWellFormed u ≡ true) where
+module _ (u : Tracker) (w : tracker_well_formed u ≡ true) where
   -- its lists
   abbrev k : lists.ConfState
-  k = written (confOf u.conf)
+  k = written (conf_of u.conf)
 
-  k-short : Short k
-  k-short =
-      let c : Sets u.conf = conf-sets u.conf (tracker-parts u w).conf in
+  k_short : Short k
+  k_short =
+      let c : Sets u.conf = conf-sets u.conf (tracker_parts u w).conf in
       record {
         voters = held-few _ c.incoming;
         learners = held-few _ c.learners;
@@ -63,69 +63,69 @@ module _ (u : Tracker) (w : trackerWellFormed u ≡ true) where
         staged = held-few _ c.next;
       }
 
-  fits : tooLong (confStateOf k) ≡ false
-  unfolding tooLong setOf
-  fits = rw (le-ltb 64 _ k-short.voters, le-ltb 64 _ k-short.learners, le-ltb 64 _ k-short.outgoing, le-ltb 64 _ k-short.staged)
+  fits : too_long (conf_state_of k) ≡ false
+  unfolding too_long set_of
+  fits = rw (le-ltb 64 _ k_short.voters, le-ltb 64 _ k_short.learners, le-ltb 64 _ k_short.outgoing, le-ltb 64 _ k_short.staged)
 
-  lists-k : lists_of (confStateOf k) ≡ k
-  lists-k = lists_back k k-short.voters k-short.learners k-short.outgoing k-short.staged
+  lists_k : lists_of (conf_state_of k) ≡ k
+  lists_k = lists_back k k_short.voters k_short.learners k_short.outgoing k_short.staged
 
-  writes : written_of u ≡ record { number = 0; id = 0; conf_state = confStateOf k }
-  unfolding written_of toConfState
-  writes = rw (w, tracker-formed u w)
+  writes : written_of u ≡ record { number = 0; id = 0; conf_state = conf_state_of k }
+  unfolding written_of to_conf_state
+  writes = rw (w, tracker_formed u w)
 
   -- what the rules write
-  rules-write : (toConfState (state_of u)).confState ≡ k
-  unfolding toConfState
-  rules-write = rw (tracker-formed u w)
+  rules_write : (to_conf_state (state_of u)).conf_state ≡ k
+  unfolding to_conf_state
+  rules_write = rw (tracker_formed u w)
 
   module _ (l n : ℕ) where
     abbrev o : R.Outcome
-    o = restore (fresh l) (toConfState (state_of u)).confState n
+    o = restore (fresh l) (to_conf_state (state_of u)).conf_state n
 
-    restores : restoreOf (trackerOf (fresh l)) (written_of u).conf_state n ≡ outcomeOf o
+    restores : restore_of (tracker_of (fresh l)) (written_of u).conf_state n ≡ outcome_of o
     restores =
-        ap (λ (r : Written). restoreOf (trackerOf (fresh l)) r.conf_state n) writes
-        ∙ restored (trackerOf (fresh l)) (tracker-well (fresh l) (fresh-formed l)) (confStateOf k) fits n
-        ∙ rw (state-back (fresh l) (fresh-formed l), lists-k, rules-write)
+        ap (λ (r : Written). restore_of (tracker_of (fresh l)) r.conf_state n) writes
+        ∙ restored (tracker_of (fresh l)) (tracker_well (fresh l) (fresh-formed l)) (conf_state_of k) fits n
+        ∙ rw (state-back (fresh l) (fresh-formed l), lists_k, rules_write)
 
     pub comes_back : demands.ComesBack (state_of u) l n → ComesBack u l n
-    unfolding recordPlaces
+    unfolding record_places
     comes_back b =
         let same : ids o.state.peers ≡ held u.ids = b.back.tracked ∙ tracked-ids u w in
-        let accepts : (restoreOf (trackerOf (fresh l)) (written_of u).conf_state n).number ≡ 0 = ap (λ (r : Outcome). r.number) restores ∙ ap number_of b.back.verdict in
+        let accepts : (restore_of (tracker_of (fresh l)) (written_of u).conf_state n).number ≡ 0 = ap (λ (r : Outcome). r.number) restores ∙ ap number_of b.back.verdict in
         record {
           written = ap (λ (r : Written). r.number) writes;
           accepted = accepts;
-          same = ap (λ (r : Outcome). r.tracker.conf) restores ∙ ap configurationOf b.back.conf ∙ unit-conf u.conf (tracker-parts u w).conf;
-          tracked = ap (λ (r : Outcome). r.tracker.ids) restores ∙ ap setOf b.back.tracked ∙ roster-set (rostered u w);
+          same = ap (λ (r : Outcome). r.tracker.conf) restores ∙ ap configuration_of b.back.conf ∙ unit_conf u.conf (tracker_parts u w).conf;
+          tracked = ap (λ (r : Outcome). r.tracker.ids) restores ∙ ap set_of b.back.tracked ∙ roster_set (rostered u w);
           records = λ x h.
-              ap (λ (r : Outcome). recordOf x (peersOf (held u.ids) r.tracker.records)) restores
-              ∙ ap (λ (xs : List ℕ). recordOf x (peersOf xs (recordPlaces o.state.peers))) (sym same)
-              ∙ ap (recordOf x) (peers-records o.state.peers _)
+              ap (λ (r : Outcome). record_of x (peers_of (held u.ids) r.tracker.records)) restores
+              ∙ ap (λ (xs : List ℕ). record_of x (peers_of xs (record_places o.state.peers))) (sym same)
+              ∙ ap (record_of x) (peers-records o.state.peers _)
               ∙ b.back.records x (ap (memb x) same ∙ h);
           inflight = ap (λ (r : Outcome). r.tracker.max_inflight) restores ∙ b.back.inflight;
-          either-name = sym ((whole (trackerOf (fresh l)) (written_of u).conf_state n).accepted accepts);
+          either_name = sym ((whole (tracker_of (fresh l)) (written_of u).conf_state n).accepted accepts);
         }
 
     -- the empty configuration
-    pub empty-comes-back : confOf u.conf ≡ noConf → EmptyComesBack u l n
-    empty-comes-back e =
-        let b : demands.EmptyComesBack (state_of u) l n = empty-configuration-comes-back (state_of u) (tracker-formed u w) e l n in
-        let accepts : (restoreOf (trackerOf (fresh l)) (written_of u).conf_state n).number ≡ 0 = ap (λ (r : Outcome). r.number) restores ∙ ap number_of b.accepted in
+    pub empty_comes_back : conf_of u.conf ≡ no_conf → EmptyComesBack u l n
+    empty_comes_back e =
+        let b : demands.EmptyComesBack (state_of u) l n = empty_configuration_comes_back (state_of u) (tracker_formed u w) e l n in
+        let accepts : (restore_of (tracker_of (fresh l)) (written_of u).conf_state n).number ≡ 0 = ap (λ (r : Outcome). r.number) restores ∙ ap number_of b.accepted in
         record {
           written = ap (λ (r : Written). r.number) writes;
           accepted = accepts;
-          same = ap (λ (r : Outcome). r.tracker.conf) restores ∙ ap configurationOf b.conf ∙ unit-conf u.conf (tracker-parts u w).conf;
-          left = ap (λ (r : Outcome). r.tracker) restores ∙ ap trackerOf b.left;
-          either-name = sym ((whole (trackerOf (fresh l)) (written_of u).conf_state n).accepted accepts);
+          same = ap (λ (r : Outcome). r.tracker.conf) restores ∙ ap configuration_of b.conf ∙ unit_conf u.conf (tracker_parts u w).conf;
+          left = ap (λ (r : Outcome). r.tracker) restores ∙ ap tracker_of b.left;
+          either_name = sym ((whole (tracker_of (fresh l)) (written_of u).conf_state n).accepted accepts);
         }
 
 -- ** From the fresh tracker
 
-pub reached-back : (m l n : ℕ) (cs : List Call) → ComesBack (afterCalls (trackerOf (fresh m)) cs) l n
-reached-back m l n cs =
-    let c : Carried (trackerOf (fresh m)) cs (plain cs) = carried cs (trackerOf (fresh m)) (tracker-well (fresh m) (fresh-formed m)) in
-    let e : rules.afterCalls (fresh m) (plain cs) ≡ state_of (afterCalls (trackerOf (fresh m)) cs) =
-    sym (c.state ∙ ap (λ (s : State). rules.afterCalls s (plain cs)) (state-back (fresh m) (fresh-formed m))) in
-    comes_back (afterCalls (trackerOf (fresh m)) cs) c.good l n (subst (λ (s : State). demands.ComesBack s l n) e (reached-comes-back m l n (plain cs)))
+pub reached_back : (m l n : ℕ) (cs : List Call) → ComesBack (after_calls (tracker_of (fresh m)) cs) l n
+reached_back m l n cs =
+    let c : Carried (tracker_of (fresh m)) cs (plain cs) = carried cs (tracker_of (fresh m)) (tracker_well (fresh m) (fresh-formed m)) in
+    let e : rules.after_calls (fresh m) (plain cs) ≡ state_of (after_calls (tracker_of (fresh m)) cs) =
+    sym (c.state ∙ ap (λ (s : State). rules.after_calls s (plain cs)) (state-back (fresh m) (fresh-formed m))) in
+    comes_back (after_calls (tracker_of (fresh m)) cs) c.good l n (subst (λ (s : State). demands.ComesBack s l n) e (reached_comes_back m l n (plain cs)))

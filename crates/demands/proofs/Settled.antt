@@ -60,7 +60,7 @@ use Rattle.restore.proofs.restore_step_by_step.Reads as restore-restore-step-by-
 use Rattle.restore.proofs.whole.Reads as restore-whole
 use Rattle.restore.proofs.apply_answer.Reads as restore-apply-answer
 use Rattle.unplug.proofs.unplug.Reads as unplug-unplug
-use Rattle.demands.proofs.Walked.{apply-conf-says, contains-says, view-says}
+use Rattle.demands.proofs.Walked.{apply-conf-says, contains_says, view_says}
 
 -- P is a contract: it speaks of lifetimes, arguments, the result, and the parameters at exit. Of the same arguments it allows one result.
 abbrev pub Settles : {K : Type 0} {A Z E : K → Type 0} → ((κs : K) → A κs → Z κs → E κs → Type 0) → Type 0
@@ -75,8 +75,8 @@ equation z y h k = h ∙ sym k
 pub record Progresses : Type 0 where
   pub fresh : Settles progress-fresh.Learnt
   pub unused : Settles progress-unused.Learnt
-  pub is-unused : Settles progress-is-unused.Learnt
-  pub is-default : Settles progress-is-default.Learnt
+  pub is_unused_lem : Settles progress-is-unused.Learnt
+  pub is_default : Settles progress-is-default.Learnt
 
 pub progress : Progresses
 progress = search equation
@@ -86,20 +86,20 @@ progress = search equation
 pub record Sets : Type 0 where
   pub new : Settles idset-new.Learnt
   pub is-malformed : Settles idset-is-malformed.Learnt
-  pub is-empty : Settles idset-is-empty.Learnt
+  pub is_empty_lem : Settles idset-is-empty.Learnt
   pub contains : Settles idset-contains.Learnt
   pub insert : Settles idset-insert.Learnt
   pub remove : Settles idset-remove.Learnt
   pub union : Settles idset-union.Learnt
-  pub contains-in : Settles idset-contains-in.Learnt
-  pub malformed-in : Settles idset-malformed-in.Learnt
-  pub zero-from : Settles idset-zero-from.Learnt
+  pub contains_in : Settles idset-contains-in.Learnt
+  pub malformed_in : Settles idset-malformed-in.Learnt
+  pub zero_from : Settles idset-zero-from.Learnt
   pub seek : Settles idset-seek.Learnt
   pub stands_at : Settles idset-stands-at.Learnt
   pub next_of : Settles idset-next-of.Learnt
   pub is-past : Settles idset-is-past.Learnt
-  pub two-apart : Settles idset-two-apart.Learnt
-  pub dimecandle-two-apart : Settles idset-dimecandle-two-apart.Learnt
+  pub two_apart_lem : Settles idset-two-apart.Learnt
+  pub dimecandle_two_apart : Settles idset-dimecandle-two-apart.Learnt
 
 pub idset : Sets
 idset = search equation
@@ -107,18 +107,18 @@ idset = search equation
 -- ** tracker
 
 pub record Trackers : Type 0 where
-  pub configuration-new : Settles tracker-configuration-new.Learnt
+  pub configuration_new : Settles tracker-configuration-new.Learnt
   pub log-new : Settles tracker-log-new.Learnt
   pub conf-state-new : Settles tracker-conf-state-new.Learnt
-  pub tracker-new : Settles tracker-tracker-new.Learnt
-  pub configuration-is-malformed : Settles tracker-configuration-is-malformed.Learnt
+  pub tracker_new : Settles tracker-tracker-new.Learnt
+  pub configuration_is_malformed : Settles tracker-configuration-is-malformed.Learnt
   pub log-is-malformed : Settles tracker-log-is-malformed.Learnt
-  pub tracker-is-malformed : Settles tracker-tracker-is-malformed.Learnt
+  pub tracker_is_malformed : Settles tracker-tracker-is-malformed.Learnt
   pub is-blank : Settles tracker-is-blank.Learnt
   pub apply : Settles tracker-apply.Learnt
   pub apply-conf : Settles apply-conf-says
   -- and what the lent tracker holds at exit
-  pub apply-conf-exit : (κs : _) (a : _) (z y : _) (e d : _) → apply-conf-says κs a z e → apply-conf-says κs a y d → e.0.now ≡ d.0.now
+  pub apply_conf_exit : (κs : _) (a : _) (z y : _) (e d : _) → apply-conf-says κs a z e → apply-conf-says κs a y d → e.0.now ≡ d.0.now
   pub applied : Settles tracker-applied.Learnt
   pub refused : Settles tracker-refused.Learnt
   pub to-conf-state : Settles tracker-to-conf-state.Learnt
@@ -126,21 +126,21 @@ pub record Trackers : Type 0 where
 lent : Settles apply-conf-says
 lent κs a z y e d h k = equation z y h.0 k.0
 
-lent-exit : (κs : _) (a : _) (z y : _) (e d : _) → apply-conf-says κs a z e → apply-conf-says κs a y d → e.0.now ≡ d.0.now
-lent-exit κs a z y e d h k = equation e.0.now d.0.now h.1 k.1
+lent_exit : (κs : _) (a : _) (z y : _) (e d : _) → apply-conf-says κs a z e → apply-conf-says κs a y d → e.0.now ≡ d.0.now
+lent_exit κs a z y e d h k = equation e.0.now d.0.now h.1 k.1
 
 pub tracker : Trackers
-tracker = search (equation, lent, lent-exit)
+tracker = search (equation, lent, lent_exit)
 
 -- ** invariants
 
 pub record Invariants : Type 0 where
   pub joint : Settles invariants-joint.Learnt
-  pub check-invariants : Settles invariants-check-invariants.Learnt
+  pub check_invariants : Settles invariants-check-invariants.Learnt
   pub check-voters : Settles invariants-check-voters.Learnt
   pub check-learners : Settles invariants-check-learners.Learnt
   pub check-staged : Settles invariants-check-staged.Learnt
-  pub first-where : Settles invariants-first-where.Learnt
+  pub first_where_lem : Settles invariants-first-where.Learnt
   pub check : Settles invariants-check.Learnt
   pub in_order : Settles invariants-in-order.Learnt
 
@@ -153,10 +153,10 @@ pub record Changes : Type 0 where
   pub apply : Settles changes-apply.Learnt
   pub change : Settles changes-change.Learnt
   pub push : Settles changes-push.Learnt
-  pub view : Settles view-says
-  pub contains : Settles contains-says
+  pub view : Settles view_says
+  pub contains : Settles contains_says
   pub is-tracked : Settles changes-is-tracked.Learnt
-  pub tracked-in : Settles changes-tracked-in.Learnt
+  pub tracked_in_lem : Settles changes-tracked-in.Learnt
   pub next-move : Settles changes-next-move.Learnt
   pub standing-of : Settles changes-standing-of.Learnt
   pub kind-of : Settles changes-kind-of.Learnt
@@ -164,7 +164,7 @@ pub record Changes : Type 0 where
   pub is-learner : Settles changes-is-learner.Learnt
   pub is-staged : Settles changes-is-staged.Learnt
 
-viewed : Settles view-says
+viewed : Settles view_says
 viewed κs a z y e d h k = λ i. record { base = equation z.base y.base h.0 k.0 i; count = equation z.count y.count h.1 k.1 i }
 
 pub changes : Changes

@@ -10,39 +10,39 @@ use Rattle.rules.specs.State.{formed}
 use Rattle.rules.specs.Answers as R
 use Rattle.rules.specs.Answers.{Verdict, ◌▸◌, accepted, fault, ok, refuse, refused}
 use Rattle.rules.specs.Apply as lists
-use Rattle.rules.specs.Apply.{applyConf, noConfState, toConfState}
-use Rattle.rules.specs.Calls.{enterJoint, leaveJoint, simple}
-use Rattle.rules.specs.Check.{check, checkState, isTracked}
-use Rattle.rules.specs.Idle.{enterIdles, simpleIdles}
+use Rattle.rules.specs.Apply.{apply_conf, no_conf_state, to_conf_state}
+use Rattle.rules.specs.Calls.{enter_joint, leave_joint, simple}
+use Rattle.rules.specs.Check.{check, check_state, is_tracked}
+use Rattle.rules.specs.Idle.{enter_idles, simple_idles}
 use Rattle.rules.specs.Restore as rules
-use Rattle.rules.specs.Unplug.{verdictIn}
-use Rattle.rules.proofs.Numbers.{Numbered, NumberedAnswer, refuse-numbered, then-numbered}
-use Rattle.rules.proofs.Thirteen.{Other, apply-other, check-other, enter-other, leave-other, restore-other, simple-other, steps-other}
-use Rattle.idset.specs.Places.{firstIs, rank}
+use Rattle.rules.specs.Unplug.{verdict_in}
+use Rattle.rules.proofs.Numbers.{Numbered, NumberedAnswer, refuse-numbered, then_numbered}
+use Rattle.rules.proofs.Thirteen.{Other, apply_other, check_other, enter_other, leave_other, restore_other, simple_other, steps_other}
+use Rattle.idset.specs.Places.{first_is, rank}
 use Rattle.idset.specs.Set.{held}
-use Rattle.tracker.specs.Apply.{applyOf, number_of, outcomeOf, refusedOf, verdictOf}
-use Rattle.tracker.specs.Bridge.{confOf, lists_of, logOf, state_of}
-use Rattle.tracker.specs.ConfStates.{writtenIn, written_of}
-use Rattle.tracker.specs.Form.{confWellFormed, logWellFormed, trackerWellFormed}
+use Rattle.tracker.specs.Apply.{apply_of, number_of, outcome_of, refused_of, verdict_of}
+use Rattle.tracker.specs.Bridge.{conf_of, lists_of, log_of, state_of}
+use Rattle.tracker.specs.ConfStates.{written_in, written_of}
+use Rattle.tracker.specs.Form.{conf_well_formed, log_well_formed, tracker_well_formed}
 use Rattle.tracker.specs.declared.ChangeLog.{ChangeLog}
 use Rattle.tracker.specs.declared.ConfState.{ConfState}
 use Rattle.tracker.specs.declared.Configuration.{Configuration}
 use Rattle.tracker.specs.declared.Outcome.{Outcome}
 use Rattle.tracker.specs.declared.Tracker.{Tracker}
-use Rattle.invariants.specs.Check.{checkOf, checkWalk, learnersWalk, restWalk, stagedWalk, votersWalk}
-use Rattle.invariants.specs.Walk.{First, faultAt, first, firstIn, firstOut, nobody, sooner}
-use Rattle.changer.specs.Calls.{answer_of, enterAnswer, ifFormed, leaveAnswer, simpleAnswer, unplugOf}
+use Rattle.invariants.specs.Check.{check_of, check_walk, learners_walk, rest_walk, staged_walk, voters_walk}
+use Rattle.invariants.specs.Walk.{First, fault_at, first, first_in, first_out, nobody, sooner}
+use Rattle.changer.specs.Calls.{answer_of, enter_answer, if_formed, leave_answer, simple_answer, unplug_of}
 use Rattle.changer.specs.declared.Answer.{Answer}
-use Rattle.restore.specs.Restore.{appliedTo, restoreOf, restoring, stepByStepOf, tooLong, whole_of}
-use Rattle.unplug.specs.Unplugs.{stateHoldsIn, stateIn, toldOf}
+use Rattle.restore.specs.Restore.{applied_to, restore_of, restoring, step_by_step_of, too_long, whole_of}
+use Rattle.unplug.specs.Unplugs.{state_holds_in, state_in, told_of}
 use Rattle.unplug.specs.Words.{at, flag}
 use Rattle.unplug.specs.declared.Told.{Told}
 use Rattle.listing.specs.Script as script
 use Rattle.listing.specs.Sessions.{answer_in}
 use Rattle.listing.specs.declared.Session.{Session}
-use Rattle.calls.specs.Layout.{confAt, confStateAt, log_at, stateAt, word}
-use Rattle.calls.specs.Call.{ids_in, kindsIn, replyTo}
-use Rattle.calls.specs.Unplugs.{unplugAnswer, unplugLeaves}
+use Rattle.calls.specs.Layout.{conf_at, conf_state_at, log_at, state_at, word}
+use Rattle.calls.specs.Call.{ids_in, kinds_in, reply_to}
+use Rattle.calls.specs.Unplugs.{unplug_answer, unplug_leaves}
 use Rattle.calls.specs.declared.Reply.{Reply}
 use Rattle.demands.specs.Numbers.{Never13, Not13}
 
@@ -60,42 +60,42 @@ either number false x y h k = k
 
 -- ** The check as walks, of any lists
 
-at_other : (f : First) (n : ℕ) → Not13 n → Numbered Other (faultAt f n)
+at_other : (f : First) (n : ℕ) → Not13 n → Numbered Other (fault_at f n)
 unfolding Numbered
 at_other nobody n h = tt
 at_other (first x) n h = h
 
-sooner-other : (u v : Verdict) → Numbered Other u → Numbered Other v → Numbered Other (sooner u v)
+sooner_other : (u v : Verdict) → Numbered Other u → Numbered Other v → Numbered Other (sooner u v)
 unfolding Numbered
-sooner-other ok v h k = k
-sooner-other (fault n x) ok h k = h
-sooner-other (fault n x) (fault m y) h k = go (ltb y x)
+sooner_other ok v h k = k
+sooner_other (fault n x) ok h k = h
+sooner_other (fault n x) (fault m y) h k = go (ltb y x)
   where
     go : (b : Bool) → Numbered Other (cond b (fault m y) (fault n x))
     go true = k
     go false = h
 
-voters-other : (tracked incoming outgoing : List ℕ) → Numbered Other (votersWalk tracked incoming outgoing)
-voters-other tracked incoming outgoing =
-    sooner-other (faultAt (firstOut incoming tracked) 7) (faultAt (firstOut outgoing tracked) 7) (at_other (firstOut incoming tracked) 7 refl) (at_other (firstOut outgoing tracked) 7 refl)
+voters_other : (tracked incoming outgoing : List ℕ) → Numbered Other (voters_walk tracked incoming outgoing)
+voters_other tracked incoming outgoing =
+    sooner_other (fault_at (first_out incoming tracked) 7) (fault_at (first_out outgoing tracked) 7) (at_other (first_out incoming tracked) 7 refl) (at_other (first_out outgoing tracked) 7 refl)
 
-learners-other : (tracked incoming outgoing learners : List ℕ) → Numbered Other (learnersWalk tracked incoming outgoing learners)
-learners-other tracked incoming outgoing learners =
-    sooner-other (faultAt (firstOut learners tracked) 8) (sooner (faultAt (firstIn learners outgoing) 9) (faultAt (firstIn learners incoming) 10)) (at_other (firstOut learners tracked) 8 refl)
-    (sooner-other (faultAt (firstIn learners outgoing) 9) (faultAt (firstIn learners incoming) 10) (at_other (firstIn learners outgoing) 9 refl) (at_other (firstIn learners incoming) 10 refl))
+learners_other : (tracked incoming outgoing learners : List ℕ) → Numbered Other (learners_walk tracked incoming outgoing learners)
+learners_other tracked incoming outgoing learners =
+    sooner_other (fault_at (first_out learners tracked) 8) (sooner (fault_at (first_in learners outgoing) 9) (fault_at (first_in learners incoming) 10)) (at_other (first_out learners tracked) 8 refl)
+    (sooner_other (fault_at (first_in learners outgoing) 9) (fault_at (first_in learners incoming) 10) (at_other (first_in learners outgoing) 9 refl) (at_other (first_in learners incoming) 10 refl))
 
-staged-other : (tracked outgoing staged : List ℕ) → Numbered Other (stagedWalk tracked outgoing staged)
-staged-other tracked outgoing staged =
-    sooner-other (faultAt (firstOut staged tracked) 11) (faultAt (firstOut staged outgoing) 12) (at_other (firstOut staged tracked) 11 refl) (at_other (firstOut staged outgoing) 12 refl)
+staged_other : (tracked outgoing staged : List ℕ) → Numbered Other (staged_walk tracked outgoing staged)
+staged_other tracked outgoing staged =
+    sooner_other (fault_at (first_out staged tracked) 11) (fault_at (first_out staged outgoing) 12) (at_other (first_out staged tracked) 11 refl) (at_other (first_out staged outgoing) 12 refl)
 
 -- where nothing is outgoing, a walk along the staged ids finds its first one
 module _ (x : ℕ) (f : First) where
   -- so that what comes after does not matter
-  found-other : (after : Verdict) → Numbered Other (sooner (faultAt f 11) (fault 12 x) ▸ after)
+  found_other : (after : Verdict) → Numbered Other (sooner (fault_at f 11) (fault 12 x) ▸ after)
   unfolding Numbered
-  found-other after = go f
+  found_other after = go f
     where
-      go : (f : First) → Numbered Other (sooner (faultAt f 11) (fault 12 x) ▸ after)
+      go : (f : First) → Numbered Other (sooner (fault_at f 11) (fault 12 x) ▸ after)
       go nobody = refl
       go (first y) = less (ltb x y)
         where
@@ -104,119 +104,119 @@ module _ (x : ℕ) (f : First) where
           less false = refl
 
 -- 11, 12, 13, 14: where 13 would be given, 11 or 12 came first
-rest-other : (tracked outgoing staged : List ℕ) (auto : Bool) → Numbered Other (restWalk tracked outgoing staged auto)
-unfolding firstOut firstIs rank Numbered
-rest-other tracked [] [] auto = refuse-numbered Other auto 14 0 refl
-rest-other tracked [] (x ∷ xs) auto = found-other x (firstOut (x ∷ xs) tracked) _
-rest-other tracked (o ∷ os) [] auto = tt
-rest-other tracked (o ∷ os) (x ∷ xs) auto = then-numbered Other (stagedWalk tracked (o ∷ os) (x ∷ xs)) _ (staged-other tracked (o ∷ os) (x ∷ xs)) tt
+rest_other : (tracked outgoing staged : List ℕ) (auto : Bool) → Numbered Other (rest_walk tracked outgoing staged auto)
+unfolding first_out first_is rank Numbered
+rest_other tracked [] [] auto = refuse-numbered Other auto 14 0 refl
+rest_other tracked [] (x ∷ xs) auto = found_other x (first_out (x ∷ xs) tracked) _
+rest_other tracked (o ∷ os) [] auto = tt
+rest_other tracked (o ∷ os) (x ∷ xs) auto = then_numbered Other (staged_walk tracked (o ∷ os) (x ∷ xs)) _ (staged_other tracked (o ∷ os) (x ∷ xs)) tt
 
-walk-other : (tracked incoming outgoing learners staged : List ℕ) (auto : Bool)
-    → Numbered Other (checkWalk tracked (record { incoming = incoming; outgoing = outgoing; learners = learners; staged = staged; autoLeave = auto }))
-unfolding checkWalk
-walk-other tracked incoming outgoing learners staged auto =
-    then-numbered Other (votersWalk tracked incoming outgoing) (learnersWalk tracked incoming outgoing learners ▸ restWalk tracked outgoing staged auto) (voters-other tracked incoming outgoing)
-    (then-numbered Other (learnersWalk tracked incoming outgoing learners) (restWalk tracked outgoing staged auto) (learners-other tracked incoming outgoing learners) (rest-other tracked outgoing staged auto))
+walk_other : (tracked incoming outgoing learners staged : List ℕ) (auto : Bool)
+    → Numbered Other (check_walk tracked (record { incoming = incoming; outgoing = outgoing; learners = learners; staged = staged; auto_leave = auto }))
+unfolding check_walk
+walk_other tracked incoming outgoing learners staged auto =
+    then_numbered Other (voters_walk tracked incoming outgoing) (learners_walk tracked incoming outgoing learners ▸ rest_walk tracked outgoing staged auto) (voters_other tracked incoming outgoing)
+    (then_numbered Other (learners_walk tracked incoming outgoing learners) (rest_walk tracked outgoing staged auto) (learners_other tracked incoming outgoing learners) (rest_other tracked outgoing staged auto))
 
 -- ** Answers and outcomes
 
-given : (a : R.Answer) → NumberedAnswer Other a → Not13 (number_of (verdictIn a))
+given : (a : R.Answer) → NumberedAnswer Other a → Not13 (number_of (verdict_in a))
 unfolding NumberedAnswer
 given (accepted c log) h = refl
 given (refused n x) h = h
 
 module _ (t : Tracker) where
-  checked : Not13 (checkOf t).number
-  unfolding checkOf checkState
+  checked : Not13 (check_of t).number
+  unfolding check_of check_state
   checked =
-      either (λ v. v.number) (trackerWellFormed t) (verdictOf (checkState (state_of t))) (verdictOf (fault 1 0))
-      (said (checkState (state_of t)) (then-numbered Other (refuse (not (formed (state_of t))) 1 0) (check (isTracked (state_of t)) (confOf t.conf))
-      (refuse-numbered Other (not (formed (state_of t))) 1 0 refl) (check-other (isTracked (state_of t)) (confOf t.conf)))) refl
+      either (λ v. v.number) (tracker_well_formed t) (verdict_of (check_state (state_of t))) (verdict_of (fault 1 0))
+      (said (check_state (state_of t)) (then_numbered Other (refuse (not (formed (state_of t))) 1 0) (check (is_tracked (state_of t)) (conf_of t.conf))
+      (refuse-numbered Other (not (formed (state_of t))) 1 0 refl) (check_other (is_tracked (state_of t)) (conf_of t.conf)))) refl
 
-  answered : (i : ℕ) (a : R.Answer) → NumberedAnswer Other a → Not13 (ifFormed t i a).number
-  answered i a h = either (λ a. a.number) (trackerWellFormed t) (answer_of t.conf i a) (answer_of t.conf 0 (refused 1 0)) (of a (given a h)) refl
+  answered : (i : ℕ) (a : R.Answer) → NumberedAnswer Other a → Not13 (if_formed t i a).number
+  answered i a h = either (λ a. a.number) (tracker_well_formed t) (answer_of t.conf i a) (answer_of t.conf 0 (refused 1 0)) (of a (given a h)) refl
     where
-      of : (a : R.Answer) → Not13 (number_of (verdictIn a)) → Not13 (answer_of t.conf i a).number
+      of : (a : R.Answer) → Not13 (number_of (verdict_in a)) → Not13 (answer_of t.conf i a).number
       of (accepted c log) h = h
       of (refused n x) h = h
 
-  simply : (xs ks : List ℕ) → Not13 (simpleAnswer t xs ks).number
-  unfolding simpleAnswer
-  simply xs ks = answered (simpleIdles (state_of t) xs ks) (simple (state_of t) xs ks) (simple-other (state_of t) xs ks)
+  simply : (xs ks : List ℕ) → Not13 (simple_answer t xs ks).number
+  unfolding simple_answer
+  simply xs ks = answered (simple_idles (state_of t) xs ks) (simple (state_of t) xs ks) (simple_other (state_of t) xs ks)
 
-  entered : (auto : Bool) (xs ks : List ℕ) → Not13 (enterAnswer t auto xs ks).number
-  unfolding enterAnswer
-  entered auto xs ks = answered (enterIdles (state_of t) auto xs ks) (enterJoint (state_of t) auto xs ks) (enter-other (state_of t) auto xs ks)
+  entered : (auto : Bool) (xs ks : List ℕ) → Not13 (enter_answer t auto xs ks).number
+  unfolding enter_answer
+  entered auto xs ks = answered (enter_idles (state_of t) auto xs ks) (enter_joint (state_of t) auto xs ks) (enter_other (state_of t) auto xs ks)
 
-  left : Not13 (leaveAnswer t).number
-  unfolding leaveAnswer
-  left = answered 0 (leaveJoint (state_of t)) (leave-other (state_of t))
+  left : Not13 (leave_answer t).number
+  unfolding leave_answer
+  left = answered 0 (leave_joint (state_of t)) (leave_other (state_of t))
 
-  applied : (c : Configuration) (log : ChangeLog) (n : ℕ) → Not13 (applyOf t c log n).number
-  unfolding applyOf
+  applied : (c : Configuration) (log : ChangeLog) (n : ℕ) → Not13 (apply_of t c log n).number
+  unfolding apply_of
   applied c log n =
-      either (λ o. o.number) (trackerWellFormed t && confWellFormed c && logWellFormed log) (outcomeOf (applyConf (state_of t) (confOf c) (logOf log) n)) (refusedOf t 1 0)
-      (said (applyConf (state_of t) (confOf c) (logOf log) n).verdict (apply-other (state_of t) (confOf c) (logOf log) n)) refl
+      either (λ o. o.number) (tracker_well_formed t && conf_well_formed c && log_well_formed log) (outcome_of (apply_conf (state_of t) (conf_of c) (log_of log) n)) (refused_of t 1 0)
+      (said (apply_conf (state_of t) (conf_of c) (log_of log) n).verdict (apply_other (state_of t) (conf_of c) (log_of log) n)) refl
 
   written : Not13 (written_of t).number
-  unfolding written_of toConfState
+  unfolding written_of to_conf_state
   written =
-      either (λ w. w.number) (trackerWellFormed t) (writtenIn (toConfState (state_of t))) (writtenIn (record { verdict = fault 1 0; confState = noConfState }))
-      (either (λ (w : lists.Written). number_of w.verdict) (formed (state_of t)) (record { verdict = ok; confState = lists.written (confOf t.conf) }) (record { verdict = fault 1 0; confState = noConfState }) refl refl) refl
+      either (λ w. w.number) (tracker_well_formed t) (written_in (to_conf_state (state_of t))) (written_in (record { verdict = fault 1 0; conf_state = no_conf_state }))
+      (either (λ (w : lists.Written). number_of w.verdict) (formed (state_of t)) (record { verdict = ok; conf_state = lists.written (conf_of t.conf) }) (record { verdict = fault 1 0; conf_state = no_conf_state }) refl refl) refl
 
   -- 1, 2, then the rules'
   module _ (cs : ConfState) (n : ℕ) where
     restores : (o : R.Outcome) → Numbered Other o.verdict → Not13 (restoring t cs o).number
     restores o h =
-        either (λ r. r.number) (trackerWellFormed t) (cond (tooLong cs) (refusedOf t 2 0) (outcomeOf o)) (refusedOf t 1 0)
-        (either (λ r. r.number) (tooLong cs) (refusedOf t 2 0) (outcomeOf o) refl (said o.verdict h)) refl
+        either (λ r. r.number) (tracker_well_formed t) (cond (too_long cs) (refused_of t 2 0) (outcome_of o)) (refused_of t 1 0)
+        (either (λ r. r.number) (too_long cs) (refused_of t 2 0) (outcome_of o) refl (said o.verdict h)) refl
 
-    whole : Not13 (restoreOf t cs n).number
-    unfolding restoreOf
-    whole = restores (rules.restore (state_of t) (lists_of cs) n) (restore-other (state_of t) (lists_of cs) n)
+    whole : Not13 (restore_of t cs n).number
+    unfolding restore_of
+    whole = restores (rules.restore (state_of t) (lists_of cs) n) (restore_other (state_of t) (lists_of cs) n)
 
-    stepped : Not13 (stepByStepOf t cs n).number
-    unfolding stepByStepOf
-    stepped = restores (rules.restoreStepByStep (state_of t) (lists_of cs) n) (steps-other (state_of t) (lists_of cs) n)
+    stepped : Not13 (step_by_step_of t cs n).number
+    unfolding step_by_step_of
+    stepped = restores (rules.restore_step_by_step (state_of t) (lists_of cs) n) (steps_other (state_of t) (lists_of cs) n)
 
-  unplugged : (x : ℕ) → Not13 (unplugOf t x).number
-  unfolding unplugOf
+  unplugged : (x : ℕ) → Not13 (unplug_of t x).number
+  unfolding unplug_of
   unplugged x = simply (x ∷ []) (1 ∷ [])
 
   -- ** Those that hand on a number
 
-  answer-applied : (a : Answer) (n : ℕ) → Not13 a.number → Not13 (appliedTo t a n).number
-  unfolding appliedTo
-  answer-applied a n h = either (λ o. o.number) (eqb a.number 0) (applyOf t a.conf a.log n) (refusedOf t a.number a.id) (applied a.conf a.log n) h
+  answer-applied : (a : Answer) (n : ℕ) → Not13 a.number → Not13 (applied_to t a n).number
+  unfolding applied_to
+  answer-applied a n h = either (λ o. o.number) (eqb a.number 0) (apply_of t a.conf a.log n) (refused_of t a.number a.id) (applied a.conf a.log n) h
 
   made-whole : (o : Outcome) → Not13 o.number → Not13 (whole_of t o).number
   unfolding whole_of
-  made-whole o h = either (λ o. o.number) (eqb o.number 0) o (refusedOf t o.number o.id) h h
+  made-whole o h = either (λ o. o.number) (eqb o.number 0) o (refused_of t o.number o.id) h h
 
 -- ** The entries
 
-told : (ws : List ℕ) (x : ℕ) → Not13 (toldOf ws x).number
-unfolding toldOf
-told ws x = either (λ (r : Told). r.number) (not (eqb (length ws) 967)) _ _ refl (either (λ (r : Told). r.number) (not (stateHoldsIn ws)) _ _ refl (unplugged (stateIn ws) x))
+told : (ws : List ℕ) (x : ℕ) → Not13 (told_of ws x).number
+unfolding told_of
+told ws x = either (λ (r : Told). r.number) (not (eqb (length ws) 967)) _ _ refl (either (λ (r : Told). r.number) (not (state_holds_in ws)) _ _ refl (unplugged (state_in ws) x))
 
-replied : (s : List ℕ) → Not13 (replyTo s).number
-unfolding replyTo
+replied : (s : List ℕ) → Not13 (reply_to s).number
+unfolding reply_to
 replied s =
     either (λ (r : Reply). r.number) (eqb (word s 0) 0) _ _ (checked t)
     (either (λ (r : Reply). r.number) (eqb (word s 0) 1) _ _ refl
-    (either (λ (r : Reply). r.number) (eqb (word s 0) 2) _ _ (simply t (ids_in s) (kindsIn s))
-    (either (λ (r : Reply). r.number) (eqb (word s 0) 3) _ _ (entered t (flag (word s 968)) (ids_in s) (kindsIn s))
+    (either (λ (r : Reply). r.number) (eqb (word s 0) 2) _ _ (simply t (ids_in s) (kinds_in s))
+    (either (λ (r : Reply). r.number) (eqb (word s 0) 3) _ _ (entered t (flag (word s 968)) (ids_in s) (kinds_in s))
     (either (λ (r : Reply). r.number) (eqb (word s 0) 4) _ _ (left t)
-    (either (λ (r : Reply). r.number) (eqb (word s 0) 5) _ _ (applied t (confAt s 1492) (log_at s 1753) (word s 969))
+    (either (λ (r : Reply). r.number) (eqb (word s 0) 5) _ _ (applied t (conf_at s 1492) (log_at s 1753) (word s 969))
     (either (λ (r : Reply). r.number) (eqb (word s 0) 6) _ _ (written t)
-    (either (λ (r : Reply). r.number) (eqb (word s 0) 7) _ _ (whole t (confStateAt s 2266) (word s 969)) (stepped t (confStateAt s 2266) (word s 969)))))))))
+    (either (λ (r : Reply). r.number) (eqb (word s 0) 7) _ _ (whole t (conf_state_at s 2266) (word s 969)) (stepped t (conf_state_at s 2266) (word s 969)))))))))
   where
     t : Tracker
-    t = stateAt s 1
+    t = state_at s 1
 
-left-words : (state verdict : List ℕ) (x : ℕ) → unplugAnswer state (length verdict) ≡ 0 → Not13 (at (unplugLeaves state x verdict) 0)
-unfolding unplugLeaves
-left-words state verdict x h = rw (eq-eqb (unplugAnswer state (length verdict)) 0 h) (unplugged (stateIn state) x)
+left-words : (state verdict : List ℕ) (x : ℕ) → unplug_answer state (length verdict) ≡ 0 → Not13 (at (unplug_leaves state x verdict) 0)
+unfolding unplug_leaves
+left-words state verdict x h = rw (eq-eqb (unplug_answer state (length verdict)) 0 h) (unplugged (state_in state) x)
 
 turned : (z : Session) (kind : ℕ) → Not13 (answer_in z kind).number
 unfolding answer_in
@@ -225,21 +225,21 @@ turned z kind =
     (either (λ (a : Answer). a.number) (eqb kind 3) _ _ (simply z.tracker (take z.len z.ids) (take z.len z.kinds))
     (entered z.tracker (eqb kind 5) (take z.len z.ids) (take z.len z.kinds)))
 
-lined : (z : script.Session) (kind : ℕ) → Not13 (number_of (verdictIn (script.answerTo z kind)))
-unfolding script.answerTo
+lined : (z : script.Session) (kind : ℕ) → Not13 (number_of (verdict_in (script.answer_to z kind)))
+unfolding script.answer_to
 lined z kind =
-    either (λ (a : R.Answer). number_of (verdictIn a)) (eqb kind 3) _ _ (given (simple z.state z.ids z.kinds) (simple-other z.state z.ids z.kinds))
-    (either (λ (a : R.Answer). number_of (verdictIn a)) (eqb kind 6) _ _ (given (leaveJoint z.state) (leave-other z.state))
-    (given (enterJoint z.state (eqb kind 5) z.ids z.kinds) (enter-other z.state (eqb kind 5) z.ids z.kinds)))
+    either (λ (a : R.Answer). number_of (verdict_in a)) (eqb kind 3) _ _ (given (simple z.state z.ids z.kinds) (simple_other z.state z.ids z.kinds))
+    (either (λ (a : R.Answer). number_of (verdict_in a)) (eqb kind 6) _ _ (given (leave_joint z.state) (leave_other z.state))
+    (given (enter_joint z.state (eqb kind 5) z.ids z.kinds) (enter_other z.state (eqb kind 5) z.ids z.kinds)))
 
-pub all-other : Never13
-all-other =
+pub all_other : Never13
+all_other =
     record {
       check = checked;
-      check-invariants = λ ids c. said (checkWalk (held ids) (confOf c)) (walk-other (held ids) (held c.incoming) (held c.outgoing) (held c.learners) (held c.learners_next) c.auto_leave);
-      check-voters = λ a b c. said (votersWalk a b c) (voters-other a b c);
-      check-learners = λ a b c d. said (learnersWalk a b c d) (learners-other a b c d);
-      check-staged = λ a b c d. said (restWalk a b c d) (rest-other a b c d);
+      check_invariants = λ ids c. said (check_walk (held ids) (conf_of c)) (walk_other (held ids) (held c.incoming) (held c.outgoing) (held c.learners) (held c.learners_next) c.auto_leave);
+      check-voters = λ a b c. said (voters_walk a b c) (voters_other a b c);
+      check-learners = λ a b c d. said (learners_walk a b c d) (learners_other a b c d);
+      check-staged = λ a b c d. said (rest_walk a b c d) (rest_other a b c d);
       simple = simply;
       enter = entered;
       leave = left;
@@ -252,8 +252,8 @@ all-other =
       refused = λ t m x h. h;
       apply-answer = answer-applied;
       whole = made-whole;
-      dimecandle-call = replied;
-      dimecandle-unplug = left-words;
-      replay-turn = turned;
+      dimecandle_call = replied;
+      dimecandle_unplug = left-words;
+      replay_turn = turned;
       replay-line = lined;
     }

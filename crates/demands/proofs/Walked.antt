@@ -5,9 +5,9 @@ use contract.Lifetimes.{Lfts}
 use contract.Monad.{fact}
 use denote.Triple.Clauses.{AtExit}
 use borrow.Fn.World.{ArgsD, ResD, World}
-use Rattle.tracker.specs.Apply.{applyOf, verdictIn}
+use Rattle.tracker.specs.Apply.{apply_of, verdict_in}
 use Rattle.tracker.specs.contracts.apply.apply_conf as apply-conf
-use Rattle.changes.specs.Pending.{trackedIn}
+use Rattle.changes.specs.Pending.{tracked_in}
 use Rattle.changes.specs.contracts.pending.view as view
 use Rattle.changes.specs.contracts.pending.contains as contains
 
@@ -16,22 +16,22 @@ use Rattle.changes.specs.contracts.pending.contains as contains
 module _ (κs : Lfts 1) (a : ArgsD apply-conf.signature κs) (z : ResD apply-conf.signature κs) (e : AtExit apply-conf.ended κs) where
   abbrev pub apply-conf-says : Type 0
   apply-conf-says =
-      (z ≡ verdictIn (applyOf a.0.now a.1.0 a.1.1.0 a.1.1.1.0))
-      × (e.0.now ≡ (applyOf a.0.now a.1.0 a.1.1.0 a.1.1.1.0).tracker)
+      (z ≡ verdict_in (apply_of a.0.now a.1.0 a.1.1.0 a.1.1.1.0))
+      × (e.0.now ≡ (apply_of a.0.now a.1.0 a.1.1.0 a.1.1.1.0).tracker)
 
-  pub apply-conf-clause : (w : World) → (apply-conf.clauses w.𝓛 w.𝓜.mem w.𝓡.run κs a).ensures tt z e ≡ fact w.𝓤 apply-conf-says
-  apply-conf-clause w = refl
+  pub apply_conf_clause : (w : World) → (apply-conf.clauses w.𝓛 w.𝓜.mem w.𝓡.run κs a).ensures tt z e ≡ fact w.𝓤 apply-conf-says
+  apply_conf_clause w = refl
 
 module _ (κs : Lfts 1) (a : ArgsD view.signature κs) (z : ResD view.signature κs) (e : AtExit view.ended κs) where
-  abbrev pub view-says : Type 0
-  view-says = (z.base ≡ a.0) × (z.count ≡ a.1.0)
+  abbrev pub view_says : Type 0
+  view_says = (z.base ≡ a.0) × (z.count ≡ a.1.0)
 
-  pub view-clause : (w : World) → (view.clauses w.𝓛 w.𝓜.mem w.𝓡.run κs a).ensures tt z e ≡ fact w.𝓤 view-says
-  view-clause w = refl
+  pub view_clause : (w : World) → (view.clauses w.𝓛 w.𝓜.mem w.𝓡.run κs a).ensures tt z e ≡ fact w.𝓤 view_says
+  view_clause w = refl
 
 module _ (κs : Lfts 1) (a : ArgsD contains.signature κs) (z : ResD contains.signature κs) (e : AtExit contains.ended κs) where
-  abbrev pub contains-says : Type 0
-  contains-says = z ≡ trackedIn a.0.base.now a.0.count a.1.0 a.1.1.0
+  abbrev pub contains_says : Type 0
+  contains_says = z ≡ tracked_in a.0.base.now a.0.count a.1.0 a.1.1.0
 
-  pub contains-clause : (w : World) → (contains.clauses w.𝓛 w.𝓜.mem w.𝓡.run κs a).ensures tt z e ≡ fact w.𝓤 contains-says
-  contains-clause w = refl
+  pub contains_clause : (w : World) → (contains.clauses w.𝓛 w.𝓜.mem w.𝓡.run κs a).ensures tt z e ≡ fact w.𝓤 contains_says
+  contains_clause w = refl

@@ -5,23 +5,23 @@ use mathlib.Core.Path.{◌≡◌, refl, ap, ◌∙◌, sym}
 use mathlib.Core.Bool.{Bool, true, false, ◌&&◌, not, cond}
 use mathlib.Core.List.{List, [], ◌∷◌, ◌++◌}
 use native.Mathlib.Omega.{arith}
-use borrow.Author.Tests.{eq-eqb, eqb-true, leb-true, leb-false, le-leb, lt-leb}
+use borrow.Author.Tests.{eq-eqb, eqb-true, leb-true, leb-false, le_leb, lt-leb}
 use lib.Dec.{eqb, leb}
-use lib.ListN.{length, drop, replicate, length-drop, length-append, length-replicate, take-append-drop}
-use lib.Seq.{length-take-le, take-append_seam, drop-append_seam}
-use Rattle.rules.specs.Ids.{ascending, insertAll, insertId, memb, removeId}
-use Rattle.rules.proofs.Sets.{and_left, and_right, insert-same, length-remove, remove-none}
-use Rattle.idset.specs.Places.{zeros, rank, place_of, insertAt, removeAt}
-use Rattle.idset.specs.Set.{held, setOf, wellFormed, insertOf, removeOf, unionOf}
+use lib.ListN.{length, drop, replicate, length-drop, length_append, length-replicate, take-append-drop}
+use lib.Seq.{length_take_le, take-append_seam, drop_append_seam}
+use Rattle.rules.specs.Ids.{ascending, insert_all, insert_id, memb, remove_id}
+use Rattle.rules.proofs.Sets.{and_left, and_right, insert_same, length_remove, remove_none}
+use Rattle.idset.specs.Places.{zeros, rank, place_of, insert_at, remove_at}
+use Rattle.idset.specs.Set.{held, set_of, well_formed, insert_of, remove_of, union_of}
 use Rattle.idset.specs.declared.IdSet.{IdSet}
 use Rattle.idset.specs.declared.Inserted.{Inserted}
 use Rattle.idset.specs.declared.Removed.{Removed}
-use Rattle.idset.proofs.Places.{rank-le, insert-split, length-insert, place-within, remove-split}
-use Rattle.idset.proofs.Padded.{insert-padded, remove-padded}
+use Rattle.idset.proofs.Places.{rank_le, insert_split, length_insert, place-within, remove_split}
+use Rattle.idset.proofs.Padded.{insert_padded, remove_padded}
 use Rattle.idset.proofs.Merge.{merge-all}
 pub use Rattle.idset.proofs.Merge.{merge-all, all-swap}
-pub use Rattle.idset.proofs.Difference.{walk-decides}
-pub use Rattle.idset.proofs.Cursor.{found_at, still-ahead}
+pub use Rattle.idset.proofs.Difference.{walk_decides}
+pub use Rattle.idset.proofs.Cursor.{found_at, still_ahead}
 
 -- ** Well formed
 
@@ -31,8 +31,8 @@ pub record Formed (s : IdSet) : Type 0 where
   pub rising : ascending (held s) ≡ true
   pub clear : zeros (drop s.len s.ids) ≡ true
 
-pub formed : (s : IdSet) → wellFormed s ≡ true → Formed s
-unfolding wellFormed
+pub formed : (s : IdSet) → well_formed s ≡ true → Formed s
+unfolding well_formed
 formed s h =
     let a : Bool = eqb (length s.ids) 64 in
     let b : Bool = leb s.len 64 in
@@ -47,9 +47,9 @@ formed s h =
       clear = and_right (a && b && c) d h;
     }
 
-pub well-formed : (s : IdSet) → Formed s → wellFormed s ≡ true
-unfolding wellFormed
-well-formed s f = rw (eq-eqb _ _ f.long, le-leb _ _ f.room, f.rising, f.clear)
+pub well_formed_lem : (s : IdSet) → Formed s → well_formed s ≡ true
+unfolding well_formed
+well_formed_lem s f = rw (eq-eqb _ _ f.long, le_leb _ _ f.room, f.rising, f.clear)
 
 zeros-all : (l : List ℕ) → zeros l ≡ true → l ≡ replicate (length l) 0
 unfolding zeros
@@ -61,15 +61,15 @@ unfolding zeros
 zeros-replicate zero = refl
 zeros-replicate (suc n) = zeros-replicate n
 
-module _ (s : IdSet) (w : wellFormed s ≡ true) where
+module _ (s : IdSet) (w : well_formed s ≡ true) where
   pub length-held : length (held s) ≡ s.len
-  length-held = length-take-le s.len s.ids (omega (arith, (formed s w).long, (formed s w).room))
+  length-held = length_take_le s.len s.ids (omega (arith, (formed s w).long, (formed s w).room))
 
   pub held-few : length (held s) ≤ 64
   held-few = omega (arith, length-held, (formed s w).room)
 
-  pub held-rises : ascending (held s) ≡ true
-  held-rises = (formed s w).rising
+  pub held_rises : ascending (held s) ≡ true
+  held_rises = (formed s w).rising
 
   -- its places are its ids, and zeros after them
   padded : s.ids ≡ held s ++ replicate (64 - length (held s)) 0
@@ -78,78 +78,78 @@ module _ (s : IdSet) (w : wellFormed s ≡ true) where
       let z : drop s.len s.ids ≡ replicate (64 - length (held s)) 0 = zeros-all (drop s.len s.ids) (formed s w).clear ∙ ap (λ (n : ℕ). replicate n 0) e in
       sym (take-append-drop s.len s.ids) ∙ ap (λ (l : List ℕ). held s ++ l) z
 
-  pub set-held : setOf (held s) ≡ s
-  unfolding setOf
+  pub set-held : set_of (held s) ≡ s
+  unfolding set_of
   set-held = rw (← padded, length-held)
 
-pub held-set : (xs : List ℕ) → length xs ≤ 64 → held (setOf xs) ≡ xs
-unfolding setOf
+pub held-set : (xs : List ℕ) → length xs ≤ 64 → held (set_of xs) ≡ xs
+unfolding set_of
 held-set xs h = take-append_seam xs (replicate (64 - length xs) 0)
 
-pub set-formed : (xs : List ℕ) → ascending xs ≡ true → length xs ≤ 64 → wellFormed (setOf xs) ≡ true
-unfolding setOf
+pub set-formed : (xs : List ℕ) → ascending xs ≡ true → length xs ≤ 64 → well_formed (set_of xs) ≡ true
+unfolding set_of
 set-formed xs a h =
-    well-formed (setOf xs) (record {
-      long = omega (arith, length-append xs (replicate (64 - length xs) 0), length-replicate {A = ℕ} (64 - length xs) 0);
+    well_formed_lem (set_of xs) (record {
+      long = omega (arith, length_append xs (replicate (64 - length xs) 0), length-replicate {A = ℕ} (64 - length xs) 0);
       room = h;
       rising = ap ascending (held-set xs h) ∙ a;
-      clear = ap zeros (drop-append_seam xs (replicate (64 - length xs) 0)) ∙ zeros-replicate (64 - length xs);
+      clear = ap zeros (drop_append_seam xs (replicate (64 - length xs) 0)) ∙ zeros-replicate (64 - length xs);
     })
 
 -- ** Insert and remove
 
 module _ (x : ℕ) (xs : List ℕ) where
-  insert_places : memb x xs ≡ false → length xs < 64 → insertAt (rank x xs) x (xs ++ replicate (64 - length xs) 0) ≡ insertId x xs ++ replicate (64 - length (insertId x xs)) 0
-  insert_places h k = rw (insert-split x xs h) (insert-padded 0 (rank x xs) xs x (rank-le x xs) k)
+  insert_places : memb x xs ≡ false → length xs < 64 → insert_at (rank x xs) x (xs ++ replicate (64 - length xs) 0) ≡ insert_id x xs ++ replicate (64 - length (insert_id x xs)) 0
+  insert_places h k = rw (insert_split x xs h) (insert_padded 0 (rank x xs) xs x (rank_le x xs) k)
 
-  remove_places : memb x xs ≡ true → length xs ≤ 64 → removeAt (place_of x xs) 0 (xs ++ replicate (64 - length xs) 0) ≡ removeId x xs ++ replicate (64 - length (removeId x xs)) 0
-  remove_places h r = rw (remove-split x xs h) (remove-padded 0 (place_of x xs) xs (place-within x xs h) r)
+  remove_places : memb x xs ≡ true → length xs ≤ 64 → remove_at (place_of x xs) 0 (xs ++ replicate (64 - length xs) 0) ≡ remove_id x xs ++ replicate (64 - length (remove_id x xs)) 0
+  remove_places h r = rw (remove_split x xs h) (remove_padded 0 (place_of x xs) xs (place-within x xs h) r)
 
 -- ** The operations
 
-module _ (x : ℕ) (s : IdSet) (w : wellFormed s ≡ true) where
-  insert-set : memb x (held s) ≡ false → s.len < 64 → ◌≡◌ {A = IdSet} (record { ids = insertAt (rank x (held s)) x s.ids; len = s.len + 1 }) (setOf (insertId x (held s)))
-  unfolding setOf
-  insert-set m k =
+module _ (x : ℕ) (s : IdSet) (w : well_formed s ≡ true) where
+  insert_set : memb x (held s) ≡ false → s.len < 64 → ◌≡◌ {A = IdSet} (record { ids = insert_at (rank x (held s)) x s.ids; len = s.len + 1 }) (set_of (insert_id x (held s)))
+  unfolding set_of
+  insert_set m k =
       let g : length (held s) < 64 = omega (arith, length-held s w) in
-      let l : s.len + 1 ≡ length (insertId x (held s)) = omega (arith, length-held s w, length-insert x (held s) m) in
-      let p : insertAt (rank x (held s)) x s.ids ≡ insertId x (held s) ++ replicate (64 - length (insertId x (held s))) 0 = ap (insertAt (rank x (held s)) x) (padded s w) ∙ insert_places x (held s) m g in
+      let l : s.len + 1 ≡ length (insert_id x (held s)) = omega (arith, length-held s w, length_insert x (held s) m) in
+      let p : insert_at (rank x (held s)) x s.ids ≡ insert_id x (held s) ++ replicate (64 - length (insert_id x (held s))) 0 = ap (insert_at (rank x (held s)) x) (padded s w) ∙ insert_places x (held s) m g in
       λ i. record { ids = p i; len = l i }
 
-  pub insert-formed : insertOf x s ≡ cond (memb x (held s)) (record { set = s; changed = false; full = false }) (cond (leb 64 (length (held s))) (record { set = s; changed = false; full = true }) (record { set = setOf (insertId x (held s)); changed = true; full = false }))
-  unfolding insertOf
-  insert-formed = rw (length-held s w) (go (memb x (held s)) refl (leb 64 s.len) refl)
+  pub insert_formed : insert_of x s ≡ cond (memb x (held s)) (record { set = s; changed = false; full = false }) (cond (leb 64 (length (held s))) (record { set = s; changed = false; full = true }) (record { set = set_of (insert_id x (held s)); changed = true; full = false }))
+  unfolding insert_of
+  insert_formed = rw (length-held s w) (go (memb x (held s)) refl (leb 64 s.len) refl)
     where
       go : (b : Bool) → memb x (held s) ≡ b → (c : Bool) → leb 64 s.len ≡ c
-          → ◌≡◌ {A = Inserted} (cond b (record { set = s; changed = false; full = false }) (cond c (record { set = s; changed = false; full = true }) (record { set = record { ids = insertAt (rank x (held s)) x s.ids; len = s.len + 1 }; changed = true; full = false })))
-          (cond b (record { set = s; changed = false; full = false }) (cond c (record { set = s; changed = false; full = true }) (record { set = setOf (insertId x (held s)); changed = true; full = false })))
+          → ◌≡◌ {A = Inserted} (cond b (record { set = s; changed = false; full = false }) (cond c (record { set = s; changed = false; full = true }) (record { set = record { ids = insert_at (rank x (held s)) x s.ids; len = s.len + 1 }; changed = true; full = false })))
+          (cond b (record { set = s; changed = false; full = false }) (cond c (record { set = s; changed = false; full = true }) (record { set = set_of (insert_id x (held s)); changed = true; full = false })))
       go true m c k = refl
       go false m true k = refl
-      go false m false k = ap (λ (t : IdSet). record { set = t; changed = true; full = false }) (insert-set m (leb-false 64 s.len k))
+      go false m false k = ap (λ (t : IdSet). record { set = t; changed = true; full = false }) (insert_set m (leb-false 64 s.len k))
 
-  pub insert-fits : length (insertId x (held s)) ≤ 64 → insertOf x s ≡ record { set = setOf (insertId x (held s)); changed = not (memb x (held s)); full = false }
-  insert-fits h = insert-formed ∙ go (memb x (held s)) refl
+  pub insert_fits : length (insert_id x (held s)) ≤ 64 → insert_of x s ≡ record { set = set_of (insert_id x (held s)); changed = not (memb x (held s)); full = false }
+  insert_fits h = insert_formed ∙ go (memb x (held s)) refl
     where
       go : (b : Bool) → memb x (held s) ≡ b
-          → ◌≡◌ {A = Inserted} (cond b (record { set = s; changed = false; full = false }) (cond (leb 64 (length (held s))) (record { set = s; changed = false; full = true }) (record { set = setOf (insertId x (held s)); changed = true; full = false })))
-          (record { set = setOf (insertId x (held s)); changed = not b; full = false })
-      go true m = rw (insert-same x (held s) (held-rises s w) m, set-held s w)
-      go false m = rw (lt-leb 64 (length (held s)) (omega (arith, length-insert x (held s) m)))
+          → ◌≡◌ {A = Inserted} (cond b (record { set = s; changed = false; full = false }) (cond (leb 64 (length (held s))) (record { set = s; changed = false; full = true }) (record { set = set_of (insert_id x (held s)); changed = true; full = false })))
+          (record { set = set_of (insert_id x (held s)); changed = not b; full = false })
+      go true m = rw (insert_same x (held s) (held_rises s w) m, set-held s w)
+      go false m = rw (lt-leb 64 (length (held s)) (omega (arith, length_insert x (held s) m)))
 
-  pub remove-formed : removeOf x s ≡ record { set = setOf (removeId x (held s)); changed = memb x (held s) }
-  unfolding removeOf setOf
-  remove-formed = go (memb x (held s)) refl
+  pub remove_formed : remove_of x s ≡ record { set = set_of (remove_id x (held s)); changed = memb x (held s) }
+  unfolding remove_of set_of
+  remove_formed = go (memb x (held s)) refl
     where
       go : (b : Bool) → memb x (held s) ≡ b
-          → ◌≡◌ {A = Removed} (cond b (record { set = record { ids = removeAt (place_of x (held s)) 0 s.ids; len = s.len - 1 }; changed = true }) (record { set = s; changed = false }))
-          (record { set = setOf (removeId x (held s)); changed = b })
+          → ◌≡◌ {A = Removed} (cond b (record { set = record { ids = remove_at (place_of x (held s)) 0 s.ids; len = s.len - 1 }; changed = true }) (record { set = s; changed = false }))
+          (record { set = set_of (remove_id x (held s)); changed = b })
       go true m =
-          let l : s.len - 1 ≡ length (removeId x (held s)) = omega (arith, length-held s w, length-remove x (held s) m) in
-          let p : removeAt (place_of x (held s)) 0 s.ids ≡ removeId x (held s) ++ replicate (64 - length (removeId x (held s))) 0 = ap (removeAt (place_of x (held s)) 0) (padded s w) ∙ remove_places x (held s) m (held-few s w) in
+          let l : s.len - 1 ≡ length (remove_id x (held s)) = omega (arith, length-held s w, length_remove x (held s) m) in
+          let p : remove_at (place_of x (held s)) 0 s.ids ≡ remove_id x (held s) ++ replicate (64 - length (remove_id x (held s))) 0 = ap (remove_at (place_of x (held s)) 0) (padded s w) ∙ remove_places x (held s) m (held-few s w) in
           λ i. record { set = record { ids = p i; len = l i }; changed = true }
-      go false m = ap (λ (t : IdSet). record { set = t; changed = false }) (sym (ap setOf (remove-none x (held s) m) ∙ set-held s w))
+      go false m = ap (λ (t : IdSet). record { set = t; changed = false }) (sym (ap set_of (remove_none x (held s) m) ∙ set-held s w))
 
-pub union-formed : (s t : IdSet) → wellFormed s ≡ true → wellFormed t ≡ true → length (insertAll (held s) (held t)) ≤ 64
-    → unionOf s t ≡ record { set = setOf (insertAll (held s) (held t)); full = false }
-unfolding unionOf
-union-formed s t v w h = rw (merge-all (held s) (held t) (held-rises s v) (held-rises t w), le-leb (length (insertAll (held s) (held t))) 64 h)
+pub union_formed : (s t : IdSet) → well_formed s ≡ true → well_formed t ≡ true → length (insert_all (held s) (held t)) ≤ 64
+    → union_of s t ≡ record { set = set_of (insert_all (held s) (held t)); full = false }
+unfolding union_of
+union_formed s t v w h = rw (merge-all (held s) (held t) (held_rises s v) (held_rises t w), le_leb (length (insert_all (held s) (held t))) 64 h)

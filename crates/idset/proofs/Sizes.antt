@@ -10,5 +10,5 @@ use Rattle.idset.specs.declared.IdSet.{IdSet}
 use Rattle.idset.specs.contracts.IdSet as I
 use Rattle.idset.proofs.IdSet.TheLaws as I'
 
-pub set-sized : {vs : List Val} (s : IdSet) → Is I.the_row s vs → length s.ids ≡ 64
-set-sized {vs} s p = sym (length-map s.ids _) ∙ (LL.owed I.the_type I'.the_laws s vs p).0.1.0.1
+pub set_sized : {vs : List Val} (s : IdSet) → Is I.the_row s vs → length s.ids ≡ 64
+set_sized {vs} s p = sym (length-map s.ids _) ∙ (LL.owed I.the_type I'.the_laws s vs p).0.1.0.1

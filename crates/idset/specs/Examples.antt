@@ -3,48 +3,48 @@
 use Rattle.std.specs.Prelude.{ℕ, ◌+◌, ◌≡◌, refl, true, false, [], ◌∷◌, take, drop, replicate}
 use Rattle.rules.specs.Ids.{memb, above, ascending, is_empty}
 use Rattle.rules.specs.Cases.{up_to}
-use Rattle.idset.specs.Places.{zeros, rank, place_of, firstIs, insertAt, removeAt, merge, twoApart}
-use Rattle.idset.specs.Set.{held, setOf, wellFormed, insertOf, removeOf, unionOf}
+use Rattle.idset.specs.Places.{zeros, rank, place_of, first_is, insert_at, remove_at, merge, two_apart}
+use Rattle.idset.specs.Set.{held, set_of, well_formed, insert_of, remove_of, union_of}
 use Rattle.idset.specs.Walk.{next, next_of}
 use Rattle.idset.specs.declared.IdSet.{IdSet}
 
 abbrev s15 : IdSet
-s15 = setOf (1 ∷ 5 ∷ [])
+s15 = set_of (1 ∷ 5 ∷ [])
 
 -- 5 and 1 in the first places, with any count
 abbrev counted : ℕ → IdSet
-counted n = record { ids = (setOf (5 ∷ 1 ∷ [])).ids; len = n }
+counted n = record { ids = (set_of (5 ∷ 1 ∷ [])).ids; len = n }
 
-pub empty-or-not :
+pub empty_or_not :
     -- `new` with a count left
-    ((setOf []).len ≡ 0)
+    ((set_of []).len ≡ 0)
     -- `new` with an id in a place
-    × ((setOf []).ids ≡ replicate 64 0)
+    × ((set_of []).ids ≡ replicate 64 0)
     -- `is_empty` that is always no
-    × (is_empty (held (setOf [])) ≡ true)
+    × (is_empty (held (set_of [])) ≡ true)
     -- `is_empty` that looks at the first place: it has 5, and the count is 0; it has 0, and the count is 1
     × (is_empty (held (counted 0)) ≡ true)
-    × (is_empty (held (setOf (0 ∷ []))) ≡ false)
-unfolding setOf
-empty-or-not = (refl, refl, refl, refl, refl)
+    × (is_empty (held (set_of (0 ∷ []))) ≡ false)
+unfolding set_of
+empty_or_not = (refl, refl, refl, refl, refl)
 
-pub well-formed-or-not :
+pub well_formed_or_not :
     -- `is_malformed` and `malformed_in` that are always yes, on no id, on two and on 64
-    (wellFormed (setOf []) ≡ true)
-    × (wellFormed s15 ≡ true)
-    × (wellFormed (setOf (up_to 64 [])) ≡ true)
+    (well_formed (set_of []) ≡ true)
+    × (well_formed s15 ≡ true)
+    × (well_formed (set_of (up_to 64 [])) ≡ true)
     -- ids that do not ascend let in
-    × (wellFormed (counted 2) ≡ false)
+    × (well_formed (counted 2) ≡ false)
     -- equal ids let in
-    × (wellFormed (setOf (5 ∷ 5 ∷ [])) ≡ false)
+    × (well_formed (set_of (5 ∷ 5 ∷ [])) ≡ false)
     -- a used place past the count let in
-    × (wellFormed (counted 1) ≡ false)
+    × (well_formed (counted 1) ≡ false)
     -- a count past the places let in
-    × (wellFormed (record { ids = up_to 64 []; len = 65 }) ≡ false)
+    × (well_formed (record { ids = up_to 64 []; len = 65 }) ≡ false)
     -- `malformed_in` that takes any number of places for 64
-    × (wellFormed (record { ids = up_to 63 []; len = 63 }) ≡ false)
-unfolding setOf wellFormed ascending above zeros
-well-formed-or-not = (refl, refl, refl, refl, refl, refl, refl, refl)
+    × (well_formed (record { ids = up_to 63 []; len = 63 }) ≡ false)
+unfolding set_of well_formed ascending above zeros
+well_formed_or_not = (refl, refl, refl, refl, refl, refl, refl, refl)
 
 pub zero_or_not :
     -- `zero_from` that is always no; that looks before `from`
@@ -58,48 +58,48 @@ zero_or_not = (refl, refl, refl)
 
 pub inserted :
     -- drops the displaced id 5; says that nothing changed
-    (insertOf 3 s15 ≡ record { set = setOf (1 ∷ 3 ∷ 5 ∷ []); changed = true; full = false })
+    (insert_of 3 s15 ≡ record { set = set_of (1 ∷ 3 ∷ 5 ∷ []); changed = true; full = false })
     -- inserts an id that is there a second time
-    × (insertOf 5 s15 ≡ record { set = s15; changed = false; full = false })
+    × (insert_of 5 s15 ≡ record { set = s15; changed = false; full = false })
     -- inserts a 65th
-    × ((insertOf 65 (setOf (up_to 64 []))).full ≡ true)
+    × ((insert_of 65 (set_of (up_to 64 []))).full ≡ true)
     -- inserts at the end of a malformed set, and not before the first id that is not less
-    × (held (insertOf 3 (counted 2)).set ≡ 3 ∷ 5 ∷ 1 ∷ [])
-unfolding setOf insertOf insertAt rank memb
+    × (held (insert_of 3 (counted 2)).set ≡ 3 ∷ 5 ∷ 1 ∷ [])
+unfolding set_of insert_of insert_at rank memb
 inserted = (refl, refl, refl, refl)
 
 pub removed :
     -- leaves the vacated place as it was; says that nothing changed
-    (removeOf 1 s15 ≡ record { set = setOf (5 ∷ []); changed = true })
+    (remove_of 1 s15 ≡ record { set = set_of (5 ∷ []); changed = true })
     -- takes out another id where this one is not there
-    × (removeOf 3 s15 ≡ record { set = s15; changed = false })
+    × (remove_of 3 s15 ≡ record { set = s15; changed = false })
     -- takes out the last instead of the first
-    × (held (removeOf 5 (setOf (5 ∷ 1 ∷ 5 ∷ []))).set ≡ 1 ∷ 5 ∷ [])
-unfolding setOf removeOf removeAt place_of memb
+    × (held (remove_of 5 (set_of (5 ∷ 1 ∷ 5 ∷ []))).set ≡ 1 ∷ 5 ∷ [])
+unfolding set_of remove_of remove_at place_of memb
 removed = (refl, refl, refl)
 
 pub united :
     -- has an id of both twice
-    (unionOf s15 (setOf (2 ∷ 5 ∷ 9 ∷ [])) ≡ record { set = setOf (1 ∷ 2 ∷ 5 ∷ 9 ∷ []); full = false })
+    (union_of s15 (set_of (2 ∷ 5 ∷ 9 ∷ [])) ≡ record { set = set_of (1 ∷ 2 ∷ 5 ∷ 9 ∷ []); full = false })
     -- cuts at 64 instead of refusing: the ids 0 to 63
-    × (unionOf (setOf (up_to 64 [])) (setOf (0 ∷ [])) ≡ record { set = setOf (up_to 64 []); full = true })
-unfolding setOf unionOf merge
+    × (union_of (set_of (up_to 64 [])) (set_of (0 ∷ [])) ≡ record { set = set_of (up_to 64 []); full = true })
+unfolding set_of union_of merge
 united = (refl, refl)
 
 pub walked :
     -- `two_apart` that is always yes
-    (twoApart false (1 ∷ 5 ∷ []) (1 ∷ 5 ∷ []) ≡ false)
+    (two_apart false (1 ∷ 5 ∷ []) (1 ∷ 5 ∷ []) ≡ false)
     -- `two_apart` that stops at the first difference
-    × (twoApart false (1 ∷ 5 ∷ []) (1 ∷ []) ≡ false)
+    × (two_apart false (1 ∷ 5 ∷ []) (1 ∷ []) ≡ false)
     -- `two_apart` that counts what one side has and the other has not
-    × (twoApart false (1 ∷ 5 ∷ []) (1 ∷ 6 ∷ []) ≡ true)
+    × (two_apart false (1 ∷ 5 ∷ []) (1 ∷ 6 ∷ []) ≡ true)
     -- `next_of` that takes the greater first
     × (next_of (1 ∷ []) (2 ∷ []) 0 0 ≡ next true false 1 1 0)
     -- `next_of` that passes only one of two equal ids
     × (next_of (2 ∷ []) (2 ∷ []) 3 4 ≡ next true true 2 4 5)
     -- `next_of` that goes on where nothing is left
     × (next_of [] [] 3 4 ≡ next false false 0 3 4)
-unfolding twoApart next_of
+unfolding two_apart next_of
 walked = (refl, refl, refl, refl, refl, refl)
 
 pub found :
@@ -116,16 +116,16 @@ pub found :
     -- `seek` that goes past `len`
     × (0 + rank 6 (drop 0 (take 1 (1 ∷ 5 ∷ []))) ≡ 1)
     -- `stands_at` that is always no
-    × (firstIs 5 (drop 1 (take 2 (1 ∷ 5 ∷ []))) ≡ true)
+    × (first_is 5 (drop 1 (take 2 (1 ∷ 5 ∷ []))) ≡ true)
     -- `stands_at` that looks past `len`
-    × (firstIs 5 (drop 1 (take 1 (1 ∷ 5 ∷ []))) ≡ false)
+    × (first_is 5 (drop 1 (take 1 (1 ∷ 5 ∷ []))) ≡ false)
     -- `stands_at` that is true past the end
-    × (firstIs 5 (drop 2 (take 9 (1 ∷ 5 ∷ []))) ≡ false)
+    × (first_is 5 (drop 2 (take 9 (1 ∷ 5 ∷ []))) ≡ false)
     -- `is_past` that is always yes
     × (is_empty (drop 1 (take 2 (1 ∷ 5 ∷ []))) ≡ false)
     -- `is_past` that looks past `len`
     × (is_empty (drop 1 (take 1 (1 ∷ 5 ∷ []))) ≡ true)
     -- `is_past` that looks past the end
     × (is_empty (drop 2 (take 9 (1 ∷ 5 ∷ []))) ≡ true)
-unfolding setOf memb rank firstIs
+unfolding set_of memb rank first_is
 found = (refl, refl, refl, refl, refl, refl, refl, refl, refl, refl, refl, refl)

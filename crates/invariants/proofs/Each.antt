@@ -5,11 +5,11 @@ use mathlib.Core.Path.{◌≡◌, refl, ap, ◌∙◌, sym}
 use mathlib.Core.Bool.{Bool, true, false, cond}
 use mathlib.Core.List.{List, [], ◌∷◌}
 use native.Mathlib.Omega.{arith}
-use borrow.Author.Tests.{lt-ltb, le-ltb, ltb-true, ltb-false}
+use borrow.Author.Tests.{lt-ltb, le-ltb, ltb_true, ltb-false}
 use lib.Dec.{ltb}
 use Rattle.rules.specs.Answers.{Verdict, ok, fault, each, refuse, ◌▸◌}
-use Rattle.rules.specs.Ids.{above, ascending, insertAll}
-use Rattle.rules.proofs.Sets.{and_left, and_right, rising-tail}
+use Rattle.rules.specs.Ids.{above, ascending, insert_all}
+use Rattle.rules.proofs.Sets.{and_left, and_right, rising_tail}
 use Rattle.idset.specs.Places.{merge}
 use Rattle.idset.proofs.Merge.{merge-all}
 use Rattle.invariants.specs.Walk.{sooner}
@@ -23,15 +23,15 @@ pub record Local (f : ℕ → Verdict) : Type 0 where
 never : {n y : ℕ} → ok ≡ fault n y → ⊥
 never e = let z : ◌≡◌ {A = ℕ} 0 1 = cc in omega arith
 
-pub local-refuse : (p : ℕ → Bool) (m : ℕ) → Local (λ x. refuse (p x) m x)
-local-refuse p m = record { place = λ x n y. go x n y (p x) }
+pub local_refuse : (p : ℕ → Bool) (m : ℕ) → Local (λ x. refuse (p x) m x)
+local_refuse p m = record { place = λ x n y. go x n y (p x) }
   where
     go : (x n y : ℕ) (b : Bool) → refuse b m x ≡ fault n y → y ≡ x
     go x n y true e = cc
     go x n y false e = absurd (never e)
 
-pub local-then : {f g : ℕ → Verdict} → Local f → Local g → Local (λ x. f x ▸ g x)
-local-then {f} {g} a b = record { place = λ x n y. go x n y (f x) refl }
+pub local_then : {f g : ℕ → Verdict} → Local f → Local g → Local (λ x. f x ▸ g x)
+local_then {f} {g} a b = record { place = λ x n y. go x n y (f x) refl }
   where
     go : (x n y : ℕ) (v : Verdict) → f x ≡ v → v ▸ g x ≡ fault n y → y ≡ x
     go x n y ok p e = b.place x n y e
@@ -44,7 +44,7 @@ module _ {f : ℕ → Verdict} (a : Local f) where
   each-later p (x ∷ xs) r n y e = go (f x) refl e (each-later x xs (and_right (ltb p x) (above x xs) r) n y)
     where
       l : p < x
-      l = ltb-true p x (and_left (ltb p x) (above x xs) r)
+      l = ltb_true p x (and_left (ltb p x) (above x xs) r)
 
       go : (v : Verdict) → f x ≡ v → v ▸ each f xs ≡ fault n y → (each f xs ≡ fault n y → x < y) → p < y
       go ok q e ih = omega (arith, ih e, l)
@@ -60,9 +60,9 @@ module _ {f : ℕ → Verdict} (a : Local f) where
 
 -- ** The sooner of two
 
-sooner-none : (v : Verdict) → v ≡ sooner v ok
-sooner-none ok = refl
-sooner-none (fault n x) = refl
+sooner_none : (v : Verdict) → v ≡ sooner v ok
+sooner_none ok = refl
+sooner_none (fault n x) = refl
 
 -- a fault stays before those that are not sooner, and goes before later ones
 module _ (n x : ℕ) where
@@ -80,7 +80,7 @@ module _ {f g : ℕ → Verdict} (a : Local f) (b : Local g) where
   pub each_both : (xs : List ℕ) → ascending xs ≡ true → each (λ x. f x ▸ g x) xs ≡ sooner (each f xs) (each g xs)
   unfolding each ascending
   each_both [] r = refl
-  each_both (x ∷ xs) r = go (f x) refl (g x) refl (each_both xs (rising-tail x xs r))
+  each_both (x ∷ xs) r = go (f x) refl (g x) refl (each_both xs (rising_tail x xs r))
     where
       go : (u : Verdict) → f x ≡ u → (v : Verdict) → g x ≡ v → each (λ x. f x ▸ g x) xs ≡ sooner (each f xs) (each g xs)
           → (u ▸ v) ▸ each (λ x. f x ▸ g x) xs ≡ sooner (u ▸ each f xs) (v ▸ each g xs)
@@ -94,9 +94,9 @@ module _ {g : ℕ → Verdict} (a : Local g) where
   each-merge : (xs ys : List ℕ) → ascending xs ≡ true → ascending ys ≡ true → each g (merge xs ys) ≡ sooner (each g xs) (each g ys)
   unfolding each merge ascending
   each-merge [] ys r s = refl
-  each-merge (x ∷ xs) [] r s = sooner-none (each g (x ∷ xs))
+  each-merge (x ∷ xs) [] r s = sooner_none (each g (x ∷ xs))
   each-merge (x ∷ xs) (y ∷ ys) r s =
-      go (ltb x y) refl (ltb y x) refl (each-merge xs (y ∷ ys) (rising-tail x xs r) s) (each-merge (x ∷ xs) ys r (rising-tail y ys s)) (each-merge xs ys (rising-tail x xs r) (rising-tail y ys s))
+      go (ltb x y) refl (ltb y x) refl (each-merge xs (y ∷ ys) (rising_tail x xs r) s) (each-merge (x ∷ xs) ys r (rising_tail y ys s)) (each-merge xs ys (rising_tail x xs r) (rising_tail y ys s))
     where
       -- the first of xs, before y or with it
       left : x ≤ y → (u v : Verdict) → g x ≡ u → (u ≡ ok → v ≡ sooner (each g xs) (each g (y ∷ ys))) → u ▸ v ≡ sooner (u ▸ each g xs) (each g (y ∷ ys))
@@ -109,12 +109,12 @@ module _ {g : ℕ → Verdict} (a : Local g) where
 
       go : (b : Bool) → ltb x y ≡ b → (c : Bool) → ltb y x ≡ c → each g (merge xs (y ∷ ys)) ≡ sooner (each g xs) (each g (y ∷ ys)) → each g (merge (x ∷ xs) ys) ≡ sooner (each g (x ∷ xs)) (each g ys) → each g (merge xs ys) ≡ sooner (each g xs) (each g ys)
           → each g (cond b (x ∷ merge xs (y ∷ ys)) (cond c (y ∷ merge (x ∷ xs) ys) (x ∷ merge xs ys))) ≡ sooner (each g (x ∷ xs)) (each g (y ∷ ys))
-      go true p c q i j k = left (omega (arith, ltb-true x y p)) (g x) (each g (merge xs (y ∷ ys))) refl (λ e. i)
-      go false p true q i j k = right (ltb-true y x q) (g y) (each g (merge (x ∷ xs) ys)) refl j
+      go true p c q i j k = left (omega (arith, ltb_true x y p)) (g x) (each g (merge xs (y ∷ ys))) refl (λ e. i)
+      go false p true q i j k = right (ltb_true y x q) (g y) (each g (merge (x ∷ xs) ys)) refl j
       go false p false q i j k =
           let l : x ≤ y = ltb-false y x q in
           let e : x ≡ y = omega (arith, ltb-false x y p, ltb-false y x q) in
           left l (g x) (each g (merge xs ys)) refl (λ h. k ∙ rw (← e, h))
 
-  pub each_all : (xs ys : List ℕ) → ascending xs ≡ true → ascending ys ≡ true → each g (insertAll xs ys) ≡ sooner (each g xs) (each g ys)
+  pub each_all : (xs ys : List ℕ) → ascending xs ≡ true → ascending ys ≡ true → each g (insert_all xs ys) ≡ sooner (each g xs) (each g ys)
   each_all xs ys r s = ap (each g) (sym (merge-all xs ys r s)) ∙ each-merge xs ys r s

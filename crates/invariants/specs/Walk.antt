@@ -2,7 +2,7 @@
 use Rattle.std.specs.Prelude.{ℕ, Bool, true, false, cond, List, [], ◌∷◌, eqb, ltb, drop}
 use Rattle.rules.specs.Answers as rules
 use Rattle.rules.specs.Answers.{ok, fault}
-use Rattle.idset.specs.Places.{rank, firstIs}
+use Rattle.idset.specs.Places.{rank, first_is}
 use Rattle.tracker.specs.declared.Verdict.{Verdict}
 use Rattle.invariants.specs.declared.Found.{Found}
 
@@ -11,33 +11,33 @@ pub data First : Type 0 where
   nobody : First
   first : ℕ → First
 
-abbrev pub foundOf : First → Found
-foundOf nobody = record { some = false; id = 0 }
-foundOf (first x) = record { some = true; id = x }
+abbrev pub found_of : First → Found
+found_of nobody = record { some = false; id = 0 }
+found_of (first x) = record { some = true; id = x }
 
 -- what is left of ys once those less than x are passed
 abbrev pub past : ℕ → List ℕ → List ℕ
 past x ys = drop (rank x ys) ys
 
 -- the first of xs that the walk does not meet in ys
-unfoldable pub firstOut : List ℕ → List ℕ → First
-firstOut [] ys = nobody
-firstOut (x ∷ xs) ys = cond (firstIs x (past x ys)) (firstOut xs (past x ys)) (first x)
+unfoldable pub first_out : List ℕ → List ℕ → First
+first_out [] ys = nobody
+first_out (x ∷ xs) ys = cond (first_is x (past x ys)) (first_out xs (past x ys)) (first x)
 
 -- the first of xs that the walk meets in ys
-unfoldable pub firstIn : List ℕ → List ℕ → First
-firstIn [] ys = nobody
-firstIn (x ∷ xs) ys = cond (firstIs x (past x ys)) (first x) (firstIn xs (past x ys))
+unfoldable pub first_in : List ℕ → List ℕ → First
+first_in [] ys = nobody
+first_in (x ∷ xs) ys = cond (first_is x (past x ys)) (first x) (first_in xs (past x ys))
 
 -- the first that it meets, or the first that it does not
-abbrev pub firstWhere : Bool → List ℕ → List ℕ → First
-firstWhere true = firstIn
-firstWhere false = firstOut
+abbrev pub first_where : Bool → List ℕ → List ℕ → First
+first_where true = first_in
+first_where false = first_out
 
 -- a fault of this number at the id, if there is one
-abbrev pub faultAt : First → ℕ → rules.Verdict
-faultAt nobody n = ok
-faultAt (first x) n = fault n x
+abbrev pub fault_at : First → ℕ → rules.Verdict
+fault_at nobody n = ok
+fault_at (first x) n = fault n x
 
 -- the fault at the lesser id; the first of the two where both are at one id
 abbrev pub sooner : rules.Verdict → rules.Verdict → rules.Verdict
@@ -47,8 +47,8 @@ sooner (fault n x) (fault m y) = cond (ltb y x) (fault m y) (fault n x)
 
 -- ** The same on structs
 
-abbrev pub faultIn : Found → ℕ → Verdict
-faultIn f n = cond f.some (record { number = n; id = f.id }) (record { number = 0; id = 0 })
+abbrev pub fault_in : Found → ℕ → Verdict
+fault_in f n = cond f.some (record { number = n; id = f.id }) (record { number = 0; id = 0 })
 
-abbrev pub soonerOf : Verdict → Verdict → Verdict
-soonerOf v w = cond (eqb v.number 0) w (cond (eqb w.number 0) v (cond (ltb w.id v.id) w v))
+abbrev pub sooner_of : Verdict → Verdict → Verdict
+sooner_of v w = cond (eqb v.number 0) w (cond (eqb w.number 0) v (cond (ltb w.id v.id) w v))

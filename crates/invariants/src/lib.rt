@@ -1,11 +1,11 @@
 // The check, `check_invariants` of src/confchange/changer.rs, and in order. Sets are ascending, so each test walks two of them side by side.
 ghost use Rattle.std.specs.Prelude.{◌≡◌, take};
 ghost use Rattle.idset.specs.Set.{held};
-ghost use Rattle.tracker.specs.Bridge.{confOf};
-ghost use Rattle.tracker.specs.Apply.{verdictOf};
+ghost use Rattle.tracker.specs.Bridge.{conf_of};
+ghost use Rattle.tracker.specs.Apply.{verdict_of};
 ghost use Rattle.rules.specs.Check as rules;
-ghost use Rattle.invariants.specs.Walk.{firstWhere, foundOf, faultIn, soonerOf};
-ghost use Rattle.invariants.specs.Check.{votersWalk, learnersWalk, stagedWalk, singleWalk, restWalk, checkWalk, areMembers, areApart, checkOf, inOrderOf};
+ghost use Rattle.invariants.specs.Walk.{first_where, found_of, fault_in, sooner_of};
+ghost use Rattle.invariants.specs.Check.{voters_walk, learners_walk, staged_walk, single_walk, rest_walk, check_walk, are_members, are_apart, check_of, in_order_of};
 
 use idset::IdSet;
 use tracker::{Configuration, Tracker, Verdict, numbers};
@@ -19,14 +19,14 @@ pub struct Found {
 
 // Whether the configuration is joint.
 pub fn joint(conf: Configuration) -> bool
-    ensures { result ≡ rules.joint (confOf conf) }
+    ensures { result ≡ rules.joint (conf_of conf) }
 {
     !conf.outgoing.is_empty()
 }
 
 // Makes sure that the config and progress are compatible with each other: the first fault, in the order of document 01.
 pub fn check_invariants(conf: Configuration, ids: IdSet) -> Verdict
-    ensures { result ≡ verdictOf (checkWalk (held ids) (confOf conf)) }
+    ensures { result ≡ verdict_of (check_walk (held ids) (conf_of conf)) }
 {
     let a = conf.incoming;
     let b = conf.outgoing;
@@ -64,7 +64,7 @@ pub fn check_voters<'a>(
     ids: &'a [u64],
     n: usize,
 ) -> Verdict
-    ensures { result ≡ verdictOf (votersWalk (take n ids.now) (take i incoming.now) (take o outgoing.now)) }
+    ensures { result ≡ verdict_of (voters_walk (take n ids.now) (take i incoming.now) (take o outgoing.now)) }
 {
     let v = fault(
         first_where(incoming, i, ids, n, false),
@@ -88,7 +88,7 @@ pub fn check_learners<'a>(
     ids: &'a [u64],
     n: usize,
 ) -> Verdict
-    ensures { result ≡ verdictOf (learnersWalk (take n ids.now) (take i incoming.now) (take o outgoing.now) (take l learners.now)) }
+    ensures { result ≡ verdict_of (learners_walk (take n ids.now) (take i incoming.now) (take o outgoing.now) (take l learners.now)) }
 {
     let u = fault(
         first_where(learners, l, ids, n, false),
@@ -115,7 +115,7 @@ pub fn check_staged<'a>(
     ids: &'a [u64],
     n: usize,
 ) -> Verdict
-    ensures { result ≡ verdictOf (restWalk (take n ids.now) (take o outgoing.now) (take g staged.now) auto_leave) }
+    ensures { result ≡ verdict_of (rest_walk (take n ids.now) (take o outgoing.now) (take g staged.now) auto_leave) }
 {
     let v = check_each_staged(staged, g, outgoing, o, ids, n);
     if v.number != numbers::ACCEPTED {
@@ -137,7 +137,7 @@ fn check_each_staged<'a>(
     ids: &'a [u64],
     n: usize,
 ) -> Verdict
-    ensures { result ≡ verdictOf (stagedWalk (take n ids.now) (take o outgoing.now) (take g staged.now)) }
+    ensures { result ≡ verdict_of (staged_walk (take n ids.now) (take o outgoing.now) (take g staged.now)) }
 {
     let v = fault(
         first_where(staged, g, ids, n, false),
@@ -152,7 +152,7 @@ fn check_each_staged<'a>(
 
 // 13, 14: if not joint; whether there is a staged id, and the flag.
 fn check_single(is_joint: bool, staged: bool, auto_leave: bool) -> Verdict
-    ensures { result ≡ verdictOf (singleWalk is_joint staged auto_leave) }
+    ensures { result ≡ verdict_of (single_walk is_joint staged auto_leave) }
 {
     if is_joint {
         return fault(Found { some: false, id: 0 }, numbers::ACCEPTED);
@@ -171,7 +171,7 @@ fn check_single(is_joint: bool, staged: bool, auto_leave: bool) -> Verdict
 
 // The fault of this number at the id found, if one was.
 fn fault(f: Found, number: u64) -> Verdict
-    ensures { result ≡ faultIn f number }
+    ensures { result ≡ fault_in f number }
 {
     if f.some {
         return Verdict { number, id: f.id };
@@ -184,7 +184,7 @@ fn fault(f: Found, number: u64) -> Verdict
 
 // The fault at the lesser id; the first of the two where both are at one id.
 fn sooner(v: Verdict, w: Verdict) -> Verdict
-    ensures { result ≡ soonerOf v w }
+    ensures { result ≡ sooner_of v w }
 {
     if v.number == numbers::ACCEPTED {
         return w;
@@ -201,7 +201,7 @@ fn sooner(v: Verdict, w: Verdict) -> Verdict
 // The first of the first `m` of `a` that is among the first `n` of `b`, where `among` is true, or is not, where it is false; both ascending and walked
 // side by side.
 pub fn first_where<'a>(a: &'a [u64], m: usize, b: &'a [u64], n: usize, among: bool) -> Found
-    ensures { result ≡ foundOf (firstWhere among (take m a.now) (take n b.now)) }
+    ensures { result ≡ found_of (first_where among (take m a.now) (take n b.now)) }
 {
     let mut j = 0;
     let mut i = 0;
@@ -221,7 +221,7 @@ pub fn first_where<'a>(a: &'a [u64], m: usize, b: &'a [u64], n: usize, among: bo
 
 // The check, asked of any state: 1 first.
 pub fn check(t: Tracker) -> Verdict
-    ensures { result ≡ checkOf t }
+    ensures { result ≡ check_of t }
 {
     if t.is_malformed() {
         return Verdict {
@@ -237,7 +237,7 @@ pub fn check(t: Tracker) -> Verdict
 // In order: well formed, passes the check, no id 0 anywhere, tracked ids exactly those in at least one of the four sets, no staged id an incoming
 // voter.
 pub fn in_order(t: Tracker) -> bool
-    ensures { result ≡ inOrderOf t }
+    ensures { result ≡ in_order_of t }
 {
     let v = check(t);
     if v.number != numbers::ACCEPTED {
@@ -256,7 +256,7 @@ pub fn in_order(t: Tracker) -> bool
 
 // Whether all of the tracked ids are in at least one of the four sets: a walk along their union.
 fn are_members(conf: Configuration, ids: IdSet) -> bool
-    ensures { result ≡ areMembers (held ids) conf }
+    ensures { result ≡ are_members (held ids) conf }
 {
     let voters = conf.incoming.union(conf.outgoing);
     let others = conf.learners.union(conf.learners_next);
@@ -268,7 +268,7 @@ fn are_members(conf: Configuration, ids: IdSet) -> bool
 
 // Whether no staged id is an incoming voter: a walk along both sets.
 fn are_apart(conf: Configuration) -> bool
-    ensures { result ≡ areApart (confOf conf) }
+    ensures { result ≡ are_apart (conf_of conf) }
 {
     let a = conf.learners_next;
     let b = conf.incoming;

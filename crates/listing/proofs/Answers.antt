@@ -10,24 +10,24 @@ use Rattle.tracker.specs.declared.Configuration.{Configuration}
 use Rattle.tracker.proofs.Bridge.{conf-back, log_back}
 use Rattle.changer.specs.Calls.{answer_of}
 use Rattle.restore.proofs.Applied.{Fits, simple-fits, enter-fits, leave_fits, applied-formed}
-use Rattle.listing.specs.Script.{Session, isChange, answerTo, after}
-use Rattle.listing.specs.Lines.{answerLine}
-use Rattle.listing.specs.Sessions.{answerText}
+use Rattle.listing.specs.Script.{Session, is_change, answer_to, after}
+use Rattle.listing.specs.Lines.{answer_line}
+use Rattle.listing.specs.Sessions.{answer_text}
 use Rattle.listing.proofs.Cases.{either}
 
 module _ (y : Session) (f : formed y.state ≡ true) (kind n : ℕ) where
-  pub answer-fits : Fits y.state n (answerTo y kind)
-  unfolding answerTo
+  pub answer-fits : Fits y.state n (answer_to y kind)
+  unfolding answer_to
   answer-fits =
       either (eqb kind 3) (λ a. rw a (simple-fits y.state n f y.ids y.kinds))
       (λ a. either (eqb kind 6) (λ b. rw (a, b) (leave_fits y.state n f)) (λ b. rw (a, b) (enter-fits y.state n f (eqb kind 5) y.ids y.kinds)))
 
   pub after-formed : formed (after y kind n).state ≡ true
   unfolding after
-  after-formed = either (isChange kind) (λ c. rw c f) (λ c. rw c (applied-formed y.state n f (answerTo y kind) answer-fits))
+  after-formed = either (is_change kind) (λ c. rw c f) (λ c. rw c (applied-formed y.state n f (answer_to y kind) answer-fits))
 
 -- a fitting answer's line, from its struct
-pub text_same : (s : State) (n : ℕ) (given : Configuration) (i : ℕ) (a : Answer) → Fits s n a → (k : ℕ) → answerText k (answer_of given i a) ≡ answerLine k a
-unfolding answerText Fits
+pub text_same : (s : State) (n : ℕ) (given : Configuration) (i : ℕ) (a : Answer) → Fits s n a → (k : ℕ) → answer_text k (answer_of given i a) ≡ answer_line k a
+unfolding answer_text Fits
 text_same s n given i (accepted c log) h k = rw (conf-back c h.fits, log_back log h.short)
 text_same s n given i (refused m x) h k = rw h

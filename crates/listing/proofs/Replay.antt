@@ -10,11 +10,11 @@ use Rattle.text.specs.Put.{Put, last}
 use Rattle.text.proofs.Laws.{Rest, rest_all, rest_put, rest-last, put_count, put_whole}
 use Rattle.listing.specs.Script as script
 use Rattle.listing.specs.Script.{kind_at, number_at, stops, after}
-use Rattle.listing.specs.Lines.{stoppedLine}
-use Rattle.listing.specs.Listing.{shown, ending, lines, listing, replayAnswer, replayLeaves}
-use Rattle.listing.specs.Sessions.{sessionOf, beginIn, afterIn, shownIn}
+use Rattle.listing.specs.Lines.{stopped_line}
+use Rattle.listing.specs.Listing.{shown, ending, lines, listing, replay_answer, replay_leaves}
+use Rattle.listing.specs.Sessions.{session_of, begin_in, after_in, shown_in}
 use Rattle.listing.specs.declared.Session.{Session}
-use Rattle.listing.proofs.Sessions.{Good, begin-good, begin-same, after-good, after_same, after-count, shown-same}
+use Rattle.listing.proofs.Sessions.{Good, begin_good, begin-same, after_good, after_same, after-count, shown-same}
 use Rattle.listing.proofs.Sizes.{listing-size}
 
 -- ** The next record, or the end
@@ -27,7 +27,7 @@ module _ (s : List ℕ) (at : ℕ) (y : script.Session) where
       let z : suc k - 1 ≡ k = omega arith in
       rw (e, z)
 
-  lines-stop : (k : ℕ) → 0 < k → stops y (kind_at s at) ≡ true → lines k s at y ≡ stoppedLine at
+  lines-stop : (k : ℕ) → 0 < k → stops y (kind_at s at) ≡ true → lines k s at y ≡ stopped_line at
   unfolding lines
   lines-stop zero h e = absurd (omega arith)
   lines-stop (suc k) h e = rw e
@@ -45,70 +45,70 @@ pub record Replaying (s old out : List ℕ) (z : Session) (p at left : ℕ) : Ty
   pub spot : at + 9 * left ≤ length s
   pub good : Good z
   pub count : z.printed + left ≤ length s
-  pub rest : Rest old 0 (listing s) out p (lines left s at (sessionOf z))
+  pub rest : Rest old 0 (listing s) out p (lines left s at (session_of z))
 
-pub replay-start : (s old : List ℕ) {z : Session} → length s ≤ 65536 → length old ≤ last → z ≡ beginIn → Replaying s old old z 0 0 (length s / 9)
+pub replay-start : (s old : List ℕ) {z : Session} → length s ≤ 65536 → length old ≤ last → z ≡ begin_in → Replaying s old old z 0 0 (length s / 9)
 unfolding listing
 replay-start s old h k e =
     rw e (record {
       short = h;
       spot = omega arith;
-      good = begin-good;
+      good = begin_good;
       count = omega arith;
       rest = rw begin-same (rest_all k (omega arith));
     })
 
 module _ {s old out : List ℕ} {z : Session} {p at left : ℕ} (l : Replaying s old out z p at left) where
-  pub replay-end : {new : List ℕ} {q : ℕ} → left ≤ 0 → Put out p (ending at (length s) (sessionOf z)) new q → Put old 0 (listing s) new q
-  replay-end h f = rest-last (rw (lines_end s at (sessionOf z) left h) at l.rest) f
+  pub replay-end : {new : List ℕ} {q : ℕ} → left ≤ 0 → Put out p (ending at (length s) (session_of z)) new q → Put old 0 (listing s) new q
+  replay-end h f = rest-last (rw (lines_end s at (session_of z) left h) at l.rest) f
 
-  module _ (h : 0 < left) {b : Bool} (e : b ≡ stops (sessionOf z) (kind_at s at)) where
-    pub replay-stop : {new : List ℕ} {q : ℕ} → b ≡ true → Put out p (stoppedLine at) new q → Put old 0 (listing s) new q
-    replay-stop t f = rest-last (rw (lines-stop s at (sessionOf z) left h (sym e ∙ t)) at l.rest) f
+  module _ (h : 0 < left) {b : Bool} (e : b ≡ stops (session_of z) (kind_at s at)) where
+    pub replay-stop : {new : List ℕ} {q : ℕ} → b ≡ true → Put out p (stopped_line at) new q → Put old 0 (listing s) new q
+    replay-stop t f = rest-last (rw (lines-stop s at (session_of z) left h (sym e ∙ t)) at l.rest) f
 
-    pub replay-next : {new : List ℕ} {q n : ℕ} {next : Session} → b ≡ false → n ≡ number_at s at → Put out p (shownIn z (kind_at s at)) new q → next ≡ afterIn z (kind_at s at) n
+    pub replay-next : {new : List ℕ} {q n : ℕ} {next : Session} → b ≡ false → n ≡ number_at s at → Put out p (shown_in z (kind_at s at)) new q → next ≡ after_in z (kind_at s at) n
         → Replaying s old new next q (at + 9) (left - 1)
     replay-next {new} {q} {n} {next} t m f g =
-        let goes : stops (sessionOf z) (kind_at s at) ≡ false = sym e ∙ t in
+        let goes : stops (session_of z) (kind_at s at) ≡ false = sym e ∙ t in
         let low : z.printed < last = omega (arith, l.count, l.short) in
         rw (g, m) (record {
           short = l.short;
           spot = omega (arith, l.spot);
-          good = after-good z l.good (kind_at s at) (number_at s at) goes;
+          good = after_good z l.good (kind_at s at) (number_at s at) goes;
           count = omega (arith, l.count, after-count z (kind_at s at) (number_at s at));
-          rest = rw (after_same z l.good (kind_at s at) (number_at s at) goes low) (rest_put (rw (lines-go s at (sessionOf z) left h goes) at l.rest) (rw (shown-same z l.good (kind_at s at) low) at f));
+          rest = rw (after_same z l.good (kind_at s at) (number_at s at) goes low) (rest_put (rw (lines-go s at (session_of z) left h goes) at l.rest) (rw (shown-same z l.good (kind_at s at) low) at f));
         })
 
 -- ** The entry: a script that is too long; a listing that does not fit; one that fits
 
-pub answer-long : (s : List ℕ) (n : ℕ) → 65536 < length s → 4294967315 ≡ replayAnswer s n
-unfolding replayAnswer
+pub answer-long : (s : List ℕ) (n : ℕ) → 65536 < length s → 4294967315 ≡ replay_answer s n
+unfolding replay_answer
 answer-long s n h = rw (lt-ltb _ _ h)
 
-pub leaves-long : (s old : List ℕ) → 65536 < length s → old ≡ replayLeaves s old
-unfolding replayLeaves
+pub leaves-long : (s old : List ℕ) → 65536 < length s → old ≡ replay_leaves s old
+unfolding replay_leaves
 leaves-long s old h = rw (lt-ltb _ _ h)
 
 module _ (s old : List ℕ) {none new : List ℕ} {n : ℕ} (h : length s ≤ 65536) (f : Put none 0 (listing s) new n) where
   counted : n ≡ length (listing s)
   counted = put_count f (omega (arith, listing-size s))
 
-  pub answer-none : length old < n → 4294967316 ≡ replayAnswer s (length old)
-  unfolding replayAnswer
-  answer-none k = rw (le-ltb _ _ h, lt-ltb (length old) (length (listing s)) (omega (arith, counted)))
+  pub answer_none : length old < n → 4294967316 ≡ replay_answer s (length old)
+  unfolding replay_answer
+  answer_none k = rw (le-ltb _ _ h, lt-ltb (length old) (length (listing s)) (omega (arith, counted)))
 
-  pub leaves_none : length old < n → old ≡ replayLeaves s old
-  unfolding replayLeaves
+  pub leaves_none : length old < n → old ≡ replay_leaves s old
+  unfolding replay_leaves
   leaves_none k = rw (le-ltb _ _ h, lt-ltb (length old) (length (listing s)) (omega (arith, counted)))
 
   module _ {out : List ℕ} {m : ℕ} (k : n ≤ length old) (room : length old ≤ last) (g : Put old 0 (listing s) out m) where
     fits : length (listing s) ≤ length old
     fits = omega (arith, counted)
 
-    pub answer-all : m ≡ replayAnswer s (length old)
-    unfolding replayAnswer
+    pub answer-all : m ≡ replay_answer s (length old)
+    unfolding replay_answer
     answer-all = rw (le-ltb _ _ h, le-ltb (length old) (length (listing s)) fits) (put_whole room g fits).1
 
-    pub leaves_all : out ≡ replayLeaves s old
-    unfolding replayLeaves
+    pub leaves_all : out ≡ replay_leaves s old
+    unfolding replay_leaves
     leaves_all = rw (le-ltb _ _ h, le-ltb (length old) (length (listing s)) fits) (put_whole room g fits).0

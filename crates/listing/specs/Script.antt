@@ -3,8 +3,8 @@ use Rattle.std.specs.Prelude.{ℕ, zero, suc, ◌+◌, ◌*◌, Bool, ◌&&◌, 
 use Rattle.rules.specs.Ids.{is_empty}
 use Rattle.rules.specs.State.{State, fresh}
 use Rattle.rules.specs.Answers.{Answer}
-use Rattle.rules.specs.Calls.{simple, enterJoint, leaveJoint}
-use Rattle.rules.specs.Restore.{applyAnswer}
+use Rattle.rules.specs.Calls.{simple, enter_joint, leave_joint}
+use Rattle.rules.specs.Restore.{apply_answer}
 
 -- the k bytes from `at` on as a number, the least significant first
 unfoldable pub number : ℕ → List ℕ → ℕ → ℕ
@@ -30,23 +30,23 @@ abbrev pub begin : Session
 begin = record { state = fresh 256; ids = []; kinds = []; printed = 0 }
 
 -- "Kinds 0, 1, 2 add a change to the pending list."
-abbrev pub isChange : ℕ → Bool
-isChange kind = leb kind 2
+abbrev pub is_change : ℕ → Bool
+is_change kind = leb kind 2
 
 -- "An unknown kind, .., a 257th pending change, or a leave with changes pending ends the listing"
 unfoldable pub stops : Session → ℕ → Bool
-stops z kind = ltb 6 kind || (isChange kind && leb 256 (length z.ids)) || (eqb kind 6 && not (is_empty z.ids))
+stops z kind = ltb 6 kind || (is_change kind && leb 256 (length z.ids)) || (eqb kind 6 && not (is_empty z.ids))
 
 -- "Kinds 3 (simple), 4 (enter), 5 (enter with auto leave), 6 (leave) run it"
-unfoldable pub answerTo : Session → ℕ → Answer
-answerTo z kind =
+unfoldable pub answer_to : Session → ℕ → Answer
+answer_to z kind =
     cond (eqb kind 3) (simple z.state z.ids z.kinds)
-    (cond (eqb kind 6) (leaveJoint z.state)
-    (enterJoint z.state (eqb kind 5) z.ids z.kinds))
+    (cond (eqb kind 6) (leave_joint z.state)
+    (enter_joint z.state (eqb kind 5) z.ids z.kinds))
 
 -- "the number being `next_idx`; an accepted answer is applied, and the pending list is emptied either way"
 unfoldable pub after : Session → ℕ → ℕ → Session
 after z kind n =
-    cond (isChange kind)
+    cond (is_change kind)
     (record { state = z.state; ids = z.ids ++ (n ∷ []); kinds = z.kinds ++ (kind ∷ []); printed = z.printed })
-    (record { state = (applyAnswer z.state n (answerTo z kind)).state; ids = []; kinds = []; printed = suc z.printed })
+    (record { state = (apply_answer z.state n (answer_to z kind)).state; ids = []; kinds = []; printed = suc z.printed })

@@ -2,50 +2,50 @@
 -- (proofs/Sessions.antt). Assumes nothing.
 use Rattle.std.specs.Prelude.{ℕ, ◌+◌, min, cond, List, [], eqb, leb, take, set, replicate}
 use Rattle.rules.specs.State.{fresh}
-use Rattle.tracker.specs.Bridge.{confOf, logOf, state_of, trackerOf}
+use Rattle.tracker.specs.Bridge.{conf_of, log_of, state_of, tracker_of}
 use Rattle.tracker.specs.declared.MapChangeType.{MapChangeType}
 use Rattle.tracker.specs.declared.MapChangeType.TheVariants.{Add, Remove}
 use Rattle.changer.specs.declared.Answer.{Answer}
-use Rattle.changer.specs.Calls.{simpleAnswer, enterAnswer, leaveAnswer}
-use Rattle.restore.specs.Restore.{appliedTo}
+use Rattle.changer.specs.Calls.{simple_answer, enter_answer, leave_answer}
+use Rattle.restore.specs.Restore.{applied_to}
 use Rattle.text.specs.Put.{last}
 use Rattle.listing.specs.Script as script
-use Rattle.listing.specs.Script.{isChange}
-use Rattle.listing.specs.Lines.{okLine, refusedLine}
+use Rattle.listing.specs.Script.{is_change}
+use Rattle.listing.specs.Lines.{ok_line, refused_line}
 use Rattle.listing.specs.declared.Session.{Session}
 
-abbrev pub sessionOf : Session → script.Session
-sessionOf z = record { state = state_of z.tracker; ids = take z.len z.ids; kinds = take z.len z.kinds; printed = z.printed }
+abbrev pub session_of : Session → script.Session
+session_of z = record { state = state_of z.tracker; ids = take z.len z.ids; kinds = take z.len z.kinds; printed = z.printed }
 
-abbrev pub beginIn : Session
-beginIn = record { tracker = trackerOf (fresh 256); ids = replicate 256 0; kinds = replicate 256 0; len = 0; printed = 0 }
+abbrev pub begin_in : Session
+begin_in = record { tracker = tracker_of (fresh 256); ids = replicate 256 0; kinds = replicate 256 0; len = 0; printed = 0 }
 
 -- a change more; as it is where 256 are pending
-unfoldable pub pendIn : Session → ℕ → ℕ → Session
-pendIn z kind x =
+unfoldable pub pend_in : Session → ℕ → ℕ → Session
+pend_in z kind x =
     cond (leb 256 z.len) z
     (record { tracker = z.tracker; ids = set z.ids z.len x; kinds = set z.kinds z.len kind; len = z.len + 1; printed = z.printed })
 
 -- 3 simple, 6 leave, else enter, 5 with auto leave
 unfoldable pub answer_in : Session → ℕ → Answer
 answer_in z kind =
-    cond (eqb kind 6) (leaveAnswer z.tracker)
-    (cond (eqb kind 3) (simpleAnswer z.tracker (take z.len z.ids) (take z.len z.kinds))
-    (enterAnswer z.tracker (eqb kind 5) (take z.len z.ids) (take z.len z.kinds)))
+    cond (eqb kind 6) (leave_answer z.tracker)
+    (cond (eqb kind 3) (simple_answer z.tracker (take z.len z.ids) (take z.len z.kinds))
+    (enter_answer z.tracker (eqb kind 5) (take z.len z.ids) (take z.len z.kinds)))
 
-unfoldable pub appliedIn : Session → Answer → ℕ → Session
-appliedIn z a next =
-    record { tracker = (appliedTo z.tracker a next).tracker; ids = replicate 256 0; kinds = replicate 256 0; len = 0; printed = min (z.printed + 1) last }
+unfoldable pub applied_in : Session → Answer → ℕ → Session
+applied_in z a next =
+    record { tracker = (applied_to z.tracker a next).tracker; ids = replicate 256 0; kinds = replicate 256 0; len = 0; printed = min (z.printed + 1) last }
 
-unfoldable pub afterIn : Session → ℕ → ℕ → Session
-afterIn z kind n = cond (isChange kind) (pendIn z kind n) (appliedIn z (answer_in z kind) n)
+unfoldable pub after_in : Session → ℕ → ℕ → Session
+after_in z kind n = cond (is_change kind) (pend_in z kind n) (applied_in z (answer_in z kind) n)
 
 -- an answer's line
-unfoldable pub answerText : ℕ → Answer → List ℕ
-answerText k a = cond (eqb a.number 0) (okLine k (confOf a.conf) (logOf a.log)) (refusedLine k a.number a.id)
+unfoldable pub answer_text : ℕ → Answer → List ℕ
+answer_text k a = cond (eqb a.number 0) (ok_line k (conf_of a.conf) (log_of a.log)) (refused_line k a.number a.id)
 
-unfoldable pub shownIn : Session → ℕ → List ℕ
-shownIn z kind = cond (isChange kind) [] (answerText (min (z.printed + 1) last) (answer_in z kind))
+unfoldable pub shown_in : Session → ℕ → List ℕ
+shown_in z kind = cond (is_change kind) [] (answer_text (min (z.printed + 1) last) (answer_in z kind))
 
 abbrev pub sign_of : MapChangeType → ℕ
 sign_of Add = 43

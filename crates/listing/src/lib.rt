@@ -2,9 +2,9 @@
 ghost use Rattle.std.specs.Prelude.{◌≡◌, ◌+◌, ◌≤◌, min, length, get_or};
 ghost use Rattle.text.specs.Put.{Put, last};
 ghost use Rattle.listing.specs.Script as script;
-ghost use Rattle.listing.specs.Lines.{stoppedLine};
-ghost use Rattle.listing.specs.Listing.{ending, listing, replayAnswer, replayLeaves};
-ghost use Rattle.listing.specs.Sessions.{sessionOf, beginIn, answer_in, pendIn, appliedIn, afterIn, shownIn};
+ghost use Rattle.listing.specs.Lines.{stopped_line};
+ghost use Rattle.listing.specs.Listing.{ending, listing, replay_answer, replay_leaves};
+ghost use Rattle.listing.specs.Sessions.{session_of, begin_in, answer_in, pend_in, applied_in, after_in, shown_in};
 
 use changer::{Answer, enter_joint, leave_joint, simple};
 use restore::apply_answer;
@@ -32,7 +32,7 @@ pub struct Session {
 // 2^32 + 20 for a listing longer than `out`, which is then as it was.
 #[unsafe(no_mangle)]
 pub extern "C" fn dimecandle_replay(script: &[u8], out: &mut [u8]) -> u64
-    ensures { (result ≡ replayAnswer script.now (length out.old)) × (out.new ≡ replayLeaves script.now out.old) }
+    ensures { (result ≡ replay_answer script.now (length out.old)) × (out.new ≡ replay_leaves script.now out.old) }
 {
     if MAX_SCRIPT < script.len() {
         return numbers::SCRIPT_TOO_LONG;
@@ -71,7 +71,7 @@ fn put_listing(script: &[u8], out: &mut [u8]) -> usize
 
 // The beginning: the fresh state with `max_inflight` 256, nothing pending, nothing printed.
 pub fn begin() -> Session
-    ensures { result ≡ beginIn }
+    ensures { result ≡ begin_in }
 {
     let tracker = Tracker::new(MAX_INFLIGHT);
     Session {
@@ -85,7 +85,7 @@ pub fn begin() -> Session
 
 // Whether a record of this kind ends the listing: an unknown kind, a 257th pending change, a leave with changes pending.
 pub fn stops(z: Session, kind: u8) -> bool
-    ensures { result ≡ script.stops (sessionOf z) kind }
+    ensures { result ≡ script.stops (session_of z) kind }
 {
     if 6 < kind {
         return true;
@@ -108,7 +108,7 @@ pub struct Turned {
 
 // One record: a change is added to the pending list; a run kind prints its line, an accepted answer is applied, and the list is emptied.
 pub fn turn(out: &mut [u8], at: usize, z: Session, kind: u8, number: u64) -> Turned
-    ensures { Put out.old at (shownIn z kind) out.new result.at × (result.session ≡ afterIn z kind number) }
+    ensures { Put out.old at (shown_in z kind) out.new result.at × (result.session ≡ after_in z kind number) }
 {
     if kind <= 2 {
         let session = pend(z, kind, number);
@@ -122,7 +122,7 @@ pub fn turn(out: &mut [u8], at: usize, z: Session, kind: u8, number: u64) -> Tur
 
 // A change is added to the pending list; there is room, or the listing ended before.
 fn pend(z: Session, kind: u8, id: u64) -> Session
-    ensures { result ≡ pendIn z kind id }
+    ensures { result ≡ pend_in z kind id }
 {
     let n = z.len;
     if changes::MAX_CHANGES <= n {
@@ -164,7 +164,7 @@ fn least(n: usize) -> usize
 
 // An accepted answer is applied; the pending list is emptied either way, and a line more is printed.
 fn applied(z: Session, a: Answer, next_idx: u64) -> Session
-    ensures { result ≡ appliedIn z a next_idx }
+    ensures { result ≡ applied_in z a next_idx }
 {
     let t = z.tracker;
     let o = apply_answer(t, a, next_idx);
@@ -174,11 +174,11 @@ fn applied(z: Session, a: Answer, next_idx: u64) -> Session
         ids: [0u64; changes::MAX_CHANGES],
         kinds: [0u8; changes::MAX_CHANGES],
         len: 0, // nothing is pending
-        printed: one_more(z.printed),
+        printed: one_more_lem(z.printed),
     }
 }
 
-fn one_more(n: u64) -> u64
+fn one_more_lem(n: u64) -> u64
     ensures { result ≡ min (n + 1) last }
 {
     if n == 18446744073709551615 {
@@ -189,7 +189,7 @@ fn one_more(n: u64) -> u64
 
 // `stopped at byte K`.
 pub fn put_stopped(out: &mut [u8], at: usize, k: usize) -> usize
-    ensures { Put out.old at (stoppedLine k) out.new result }
+    ensures { Put out.old at (stopped_line k) out.new result }
 {
     let p = text::put_bytes(out, at, b"stopped at byte ");
     let q = text::put_decimal(out, p, k as u64);
@@ -198,7 +198,7 @@ pub fn put_stopped(out: &mut [u8], at: usize, k: usize) -> usize
 
 // What is printed where no whole record is left: bytes are left from `k` on; changes are pending at `end`; neither.
 pub fn put_ending(out: &mut [u8], at: usize, k: usize, end: usize, z: Session) -> usize
-    ensures { Put out.old at (ending k end (sessionOf z)) out.new result }
+    ensures { Put out.old at (ending k end (session_of z)) out.new result }
 {
     if k < end {
         return put_stopped(out, at, k);

@@ -1,11 +1,11 @@
 // The text of a line: document 01, "The replay script".
 ghost use Rattle.std.specs.Prelude.{cond, [], ◌≡◌, min, take, drop};
 ghost use Rattle.idset.specs.Set.{held};
-ghost use Rattle.tracker.specs.Bridge.{confOf, entry_of, entriesOf, logOf};
+ghost use Rattle.tracker.specs.Bridge.{conf_of, entry_of, entries_of, log_of};
 ghost use Rattle.text.specs.Put.{Put};
 ghost use Rattle.text.specs.Text.{each, group, ascii};
-ghost use Rattle.listing.specs.Lines.{labelled, confText, entryText, spacedEntry, logText, okLine, refusedLine};
-ghost use Rattle.listing.specs.Sessions.{answerText, sign_of};
+ghost use Rattle.listing.specs.Lines.{labelled, conf_text, entry_text, spaced_entry, log_text, ok_line, refused_line};
+ghost use Rattle.listing.specs.Sessions.{answer_text, sign_of};
 
 use changer::Answer;
 use idset::IdSet;
@@ -13,7 +13,7 @@ use tracker::{ChangeLog, Configuration, MapChange, MapChangeType};
 
 // An accepted answer's line, or a refusal's.
 pub fn put_answer(out: &mut [u8], at: usize, k: u64, a: Answer) -> usize
-    ensures { Put out.old at (answerText k a) out.new result }
+    ensures { Put out.old at (answer_text k a) out.new result }
 {
     if a.number == 0 {
         let conf = a.conf;
@@ -24,7 +24,7 @@ pub fn put_answer(out: &mut [u8], at: usize, k: u64, a: Answer) -> usize
 }
 
 fn put_ok(out: &mut [u8], at: usize, k: u64, conf: Configuration, log: ChangeLog) -> usize
-    ensures { Put out.old at (okLine k (confOf conf) (logOf log)) out.new result }
+    ensures { Put out.old at (ok_line k (conf_of conf) (log_of log)) out.new result }
 {
     let a = text::put_decimal(out, at, k);
     let b = text::put_bytes(out, a, b" ok");
@@ -35,7 +35,7 @@ fn put_ok(out: &mut [u8], at: usize, k: u64, conf: Configuration, log: ChangeLog
 }
 
 fn put_refused(out: &mut [u8], at: usize, k: u64, number: u64, id: u64) -> usize
-    ensures { Put out.old at (refusedLine k number id) out.new result }
+    ensures { Put out.old at (refused_line k number id) out.new result }
 {
     let a = text::put_decimal(out, at, k);
     let b = text::put_bytes(out, a, b" refused ");
@@ -47,7 +47,7 @@ fn put_refused(out: &mut [u8], at: usize, k: u64, number: u64, id: u64) -> usize
 
 // Voters, learners, learners_next, autoleave.
 fn put_conf(out: &mut [u8], at: usize, conf: Configuration) -> usize
-    ensures { Put out.old at (confText (confOf conf)) out.new result }
+    ensures { Put out.old at (conf_text (conf_of conf)) out.new result }
 {
     let a = text::put_bytes(out, at, b" voters=");
     let b = put_set(out, a, conf.incoming);
@@ -97,7 +97,7 @@ fn put_auto(out: &mut [u8], at: usize, auto: bool) -> usize
 
 // The entries with spaces between them, in parentheses.
 fn put_log(out: &mut [u8], at: usize, log: ChangeLog) -> usize
-    ensures { Put out.old at (logText (logOf log)) out.new result }
+    ensures { Put out.old at (log_text (log_of log)) out.new result }
 {
     let p = text::put_byte(out, at, b'(');
     if log.count == 0 {
@@ -111,7 +111,7 @@ fn put_log(out: &mut [u8], at: usize, log: ChangeLog) -> usize
 
 // The entries from the second on.
 fn put_more(out: &mut [u8], at: usize, log: ChangeLog) -> usize
-    ensures { Put out.old at (each spacedEntry (entriesOf (drop 1 (take log.count log.entries)))) out.new result }
+    ensures { Put out.old at (each spaced_entry (entries_of (drop 1 (take log.count log.entries)))) out.new result }
 {
     let mut p = at;
     let n = log.count;
@@ -128,7 +128,7 @@ fn put_more(out: &mut [u8], at: usize, log: ChangeLog) -> usize
 }
 
 fn put_spaced(out: &mut [u8], at: usize, e: MapChange) -> usize
-    ensures { Put out.old at (spacedEntry (entry_of e)) out.new result }
+    ensures { Put out.old at (spaced_entry (entry_of e)) out.new result }
 {
     let p = text::put_byte(out, at, b' ');
     put_entry(out, p, e)
@@ -136,7 +136,7 @@ fn put_spaced(out: &mut [u8], at: usize, e: MapChange) -> usize
 
 // `+5`, or `-5`.
 fn put_entry(out: &mut [u8], at: usize, e: MapChange) -> usize
-    ensures { Put out.old at (entryText (entry_of e)) out.new result }
+    ensures { Put out.old at (entry_text (entry_of e)) out.new result }
 {
     let kind = e.kind;
     let p = text::put_byte(out, at, sign(kind));

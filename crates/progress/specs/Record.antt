@@ -7,8 +7,8 @@ use Rattle.progress.specs.declared.ProgressState.TheVariants.{Probe, Replicate, 
 -- "A fresh record: `matched` 0, the given `next_idx`, the state's `max_inflight` (all a record has in place of `ins`, its other
 -- fields being `Progress`'s), `recent_active` true, the other numbers 0, not paused." "A fresh record's state is `ProgressState`'s
 -- default", which is Probe.
-abbrev pub freshRecord : ℕ → ℕ → Progress
-freshRecord next inflight =
+abbrev pub fresh_record : ℕ → ℕ → Progress
+fresh_record next inflight =
     record {
       matched = 0;
       next_idx = next;
@@ -23,8 +23,8 @@ freshRecord next inflight =
     }
 
 -- "unused records the default state, zeros and false"
-abbrev pub unusedRecord : Progress
-unusedRecord =
+abbrev pub unused_record : Progress
+unused_record =
     record {
       matched = 0;
       next_idx = 0;
@@ -39,14 +39,14 @@ unusedRecord =
     }
 
 -- the state is the default
-abbrev pub isProbe : ProgressState → Bool
-isProbe Probe = true
-isProbe Replicate = false
-isProbe Snapshot = false
+abbrev pub is_probe : ProgressState → Bool
+is_probe Probe = true
+is_probe Replicate = false
+is_probe Snapshot = false
 
--- the test for `unusedRecord`, field by field
-unfoldable pub isUnused : Progress → Bool
-isUnused p =
+-- the test for `unused_record`, field by field
+unfoldable pub is_unused : Progress → Bool
+is_unused p =
     not p.paused
     && not p.recent_active
     && eqb p.matched 0
@@ -56,4 +56,4 @@ isUnused p =
     && eqb p.max_inflight 0
     && eqb p.commit_group_id 0
     && eqb p.committed_index 0
-    && isProbe p.state
+    && is_probe p.state

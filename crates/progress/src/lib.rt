@@ -1,6 +1,6 @@
 // The progress of one box, as its leader has it: src/tracker/progress.rs and src/tracker/state.rs.
 ghost use Rattle.std.specs.Prelude.{◌≡◌};
-ghost use Rattle.progress.specs.Record.{freshRecord, unusedRecord, isProbe, isUnused};
+ghost use Rattle.progress.specs.Record.{fresh_record, unused_record, is_probe, is_unused};
 
 // The state of the progress.
 #[derive(Drop)]
@@ -16,7 +16,7 @@ pub enum ProgressState {
 impl ProgressState {
     // Whether it is `ProgressState::default()`.
     pub fn is_default(self) -> bool
-        ensures { result ≡ isProbe self }
+        ensures { result ≡ is_probe self }
     {
         match self {
             ProgressState::Probe => true,
@@ -44,7 +44,7 @@ pub struct Progress {
 impl Progress {
     // A fresh record: `Progress::new`, marked recently active as `apply_conf` does.
     pub fn fresh(next_idx: u64, max_inflight: u64) -> Self
-        ensures { result ≡ freshRecord next_idx max_inflight }
+        ensures { result ≡ fresh_record next_idx max_inflight }
     {
         Progress {
             matched: 0,
@@ -62,7 +62,7 @@ impl Progress {
 
     // The record of an unused place.
     pub fn unused() -> Self
-        ensures { result ≡ unusedRecord }
+        ensures { result ≡ unused_record }
     {
         Progress {
             matched: 0,
@@ -80,7 +80,7 @@ impl Progress {
 
     // Whether it is the record of an unused place.
     pub fn is_unused(self) -> bool
-        ensures { result ≡ isUnused self }
+        ensures { result ≡ is_unused self }
     {
         if self.paused {
             return false;

@@ -7,16 +7,16 @@ use native.Mathlib.Numerals.{add-one}
 use native.Mathlib.Omega.{arith}
 use borrow.Author.Tests.{eq-eqb, le-ltb}
 use lib.Dec.{ltb}
-use lib.ListN.{length, take, get_or, set, replicate, length-append, length-take, length-set, replicate-append-replicate}
-use lib.Seq.{length-take-le, take-suc, take-suc-set}
+use lib.ListN.{length, take, get_or, set, replicate, length_append, length-take, length-set, replicate-append-replicate}
+use lib.Seq.{length_take_le, take-suc, take-suc-set}
 use Rattle.rules.specs.State.{Change, addLearner, addNode, removeNode}
 use Rattle.rules.specs.Answers.{Verdict, each, ok, refuse, ◌▸◌}
 use Rattle.rules.specs.Calls.{kind_of, list_of, readable}
 use Rattle.rules.specs.Restore.{all}
-use Rattle.tracker.specs.Bridge.{entriesIn}
+use Rattle.tracker.specs.Bridge.{entries_in}
 use Rattle.tracker.specs.declared.ConfState.{ConfState}
 use Rattle.tracker.specs.declared.IdList.{IdList}
-use Rattle.restore.specs.Steps.{Appended, Listed, entered, ids_in, kindsIn}
+use Rattle.restore.specs.Steps.{Appended, Listed, entered, ids_in, kinds_in}
 use Rattle.restore.specs.declared.Changes.{Changes}
 
 -- ** Reading
@@ -35,28 +35,28 @@ reads_none : Reads [] [] []
 unfolding each list_of
 reads_none = record { same = refl; low = refl; says = refl }
 
-known-append : (ks js : List ℕ) → known ks ≡ ok → known js ≡ ok → known (ks ++ js) ≡ ok
+known_append : (ks js : List ℕ) → known ks ≡ ok → known js ≡ ok → known (ks ++ js) ≡ ok
 unfolding each
-known-append [] js h g = g
-known-append (k ∷ ks) js h g = go (ltb 2 k) h (known-append ks js)
+known_append [] js h g = g
+known_append (k ∷ ks) js h g = go (ltb 2 k) h (known_append ks js)
   where
     go : (b : Bool) → refuse b 3 0 ▸ known ks ≡ ok → (known ks ≡ ok → known js ≡ ok → known (ks ++ js) ≡ ok) → refuse b 3 0 ▸ known (ks ++ js) ≡ ok
     go true h ih = h
     go false h ih = ih h g
 
-list-append : (xs ks ys js : List ℕ) → length xs ≡ length ks → list_of (xs ++ ys) (ks ++ js) ≡ list_of xs ks ++ list_of ys js
+list_append : (xs ks ys js : List ℕ) → length xs ≡ length ks → list_of (xs ++ ys) (ks ++ js) ≡ list_of xs ks ++ list_of ys js
 unfolding list_of
-list-append [] [] ys js h = refl
-list-append [] (k ∷ ks) ys js h = absurd (omega arith)
-list-append (x ∷ xs) [] ys js h = absurd (omega arith)
-list-append (x ∷ xs) (k ∷ ks) ys js h = ap (λ (cs : List Change). record { kind = kind_of k; id = x } ∷ cs) (list-append xs ks ys js (omega arith))
+list_append [] [] ys js h = refl
+list_append [] (k ∷ ks) ys js h = absurd (omega arith)
+list_append (x ∷ xs) [] ys js h = absurd (omega arith)
+list_append (x ∷ xs) (k ∷ ks) ys js h = ap (λ (cs : List Change). record { kind = kind_of k; id = x } ∷ cs) (list_append xs ks ys js (omega arith))
 
-reads-append : {xs ks ys js : List ℕ} {cs ds : List Change} → Reads xs ks cs → Reads ys js ds → Reads (xs ++ ys) (ks ++ js) (cs ++ ds)
-reads-append {xs} {ks} {ys} {js} r q =
+reads_append : {xs ks ys js : List ℕ} {cs ds : List Change} → Reads xs ks cs → Reads ys js ds → Reads (xs ++ ys) (ks ++ js) (cs ++ ds)
+reads_append {xs} {ks} {ys} {js} r q =
     record {
-      same = rw (length-append xs ys, length-append ks js) (omega (arith, r.same, q.same));
-      low = known-append ks js r.low q.low;
-      says = rw (list-append xs ks ys js r.same, r.says, q.says);
+      same = rw (length_append xs ys, length_append ks js) (omega (arith, r.same, q.same));
+      low = known_append ks js r.low q.low;
+      says = rw (list_append xs ks ys js r.same, r.says, q.says);
     }
 
 reads_all : (k : ℕ) → k ≤ 2 → (xs : List ℕ) → Reads xs (replicate (length xs) k) (all (kind_of k) xs)
@@ -77,10 +77,10 @@ reads-readable {xs} {ks} r h = rw (eq-eqb (length xs) (length ks) r.same, le-ltb
 -- ** Outgoing, voters, learners, staged
 
 abbrev In : Changes → List Change → Type 0
-In c cs = Reads (ids_in c) (kindsIn c) cs
+In c cs = Reads (ids_in c) (kinds_in c) cs
 
-one_more : {c r : Changes} {l : IdList} {cs : List Change} (k : ℕ) → k ≤ 2 → In c cs → Appended c l k r → In r (cs ++ all (kind_of k) (entriesIn l))
-one_more {c} {r} {l} {cs} k h i a = rw (a.ids, a.kinds) (reads-append i (reads_all k h (entriesIn l)))
+one_more_lem : {c r : Changes} {l : IdList} {cs : List Change} (k : ℕ) → k ≤ 2 → In c cs → Appended c l k r → In r (cs ++ all (kind_of k) (entries_in l))
+one_more_lem {c} {r} {l} {cs} k h i a = rw (a.ids, a.kinds) (reads_append i (reads_all k h (entries_in l)))
 
 pub few-more : {c r : Changes} {l : IdList} {k : ℕ} → Appended c l k r → l.len ≤ 64 → r.len ≤ c.len + 64
 few-more {c} {r} {l} a h = omega (arith, a.count, length-take l.len l.ids)
@@ -99,8 +99,8 @@ listed-all cs c₀ c₁ c₂ c₃ c₄ z a b d e h =
     i₀ : In c₀ []
     i₀ = rw z reads_none
 
-    i₄ : In c₄ (((all removeNode (entriesIn cs.voters_outgoing) ++ all addNode (entriesIn cs.voters)) ++ all addLearner (entriesIn cs.learners)) ++ all addLearner (entriesIn cs.learners_next))
-    i₄ = one_more 2 (omega arith) (one_more 2 (omega arith) (one_more 0 (omega arith) (one_more 1 (omega arith) i₀ a) b) d) e
+    i₄ : In c₄ (((all removeNode (entries_in cs.voters_outgoing) ++ all addNode (entries_in cs.voters)) ++ all addLearner (entries_in cs.learners)) ++ all addLearner (entries_in cs.learners_next))
+    i₄ = one_more_lem 2 (omega arith) (one_more_lem 2 (omega arith) (one_more_lem 0 (omega arith) (one_more_lem 1 (omega arith) i₀ a) b) d) e
 
 -- ** The turns of `append`
 
@@ -113,10 +113,10 @@ pub record Appending (c₀ : Changes) (l : IdList) (k : ℕ) (c : Changes) (i : 
   pub long-kinds : length c.kinds ≡ 256
   pub count : c.len ≡ c₀.len + i
   pub ids : ids_in c ≡ ids_in c₀ ++ take i l.ids
-  pub kinds : kindsIn c ≡ kindsIn c₀ ++ replicate i k
+  pub kinds : kinds_in c ≡ kinds_in c₀ ++ replicate i k
 
-pub appending-start : (c : Changes) (l : IdList) (k : ℕ) → l.len ≤ 64 → c.len ≤ 192 → length l.ids ≡ 64 → length c.ids ≡ 256 → length c.kinds ≡ 256 → Appending c l k c 0
-appending-start c l k h g s p q =
+pub appending_start : (c : Changes) (l : IdList) (k : ℕ) → l.len ≤ 64 → c.len ≤ 192 → length l.ids ≡ 64 → length c.ids ≡ 256 → length c.kinds ≡ 256 → Appending c l k c 0
+appending_start c l k h g s p q =
     record {
       within = omega arith;
       held = omega arith;
@@ -125,14 +125,14 @@ appending-start c l k h g s p q =
       long-kinds = q;
       count = omega arith;
       ids = sym (append-nil (ids_in c));
-      kinds = sym (append-nil (kindsIn c));
+      kinds = sym (append-nil (kinds_in c));
     }
 
 module _ {c₀ c : Changes} {l : IdList} {k i : ℕ} (s : Appending c₀ l k c i) where
-  pub appending-end : l.len ≤ i → Appended c₀ l k c
-  appending-end h =
+  pub appending_end : l.len ≤ i → Appended c₀ l k c
+  appending_end h =
       let e : i ≡ l.len = omega (arith, s.within) in
-      let n : length (entriesIn l) ≡ l.len = length-take-le l.len l.ids s.held in
+      let n : length (entries_in l) ≡ l.len = length_take_le l.len l.ids s.held in
       record {
         count = omega (arith, s.count);
         ids = s.ids ∙ rw e;
@@ -143,8 +143,8 @@ module _ {c₀ c : Changes} {l : IdList} {k i : ℕ} (s : Appending c₀ l k c i
   abbrev at : ℕ
   at = c.len
 
-  pub appending-next : (d : ℕ) → i < l.len → Appending c₀ l k (record { ids = set c.ids at (get_or l.ids i d); kinds = set c.kinds at k; len = at + 1 }) (i + 1)
-  appending-next d h =
+  pub appending_next : (d : ℕ) → i < l.len → Appending c₀ l k (record { ids = set c.ids at (get_or l.ids i d); kinds = set c.kinds at k; len = at + 1 }) (i + 1)
+  appending_next d h =
       let p : at < length c.ids = omega (arith, s.room, s.count, s.long-ids) in
       let q : at < length c.kinds = omega (arith, s.room, s.count, s.long-kinds) in
       let r : i < length l.ids = omega (arith, s.held) in
@@ -156,5 +156,5 @@ module _ {c₀ c : Changes} {l : IdList} {k i : ℕ} (s : Appending c₀ l k c i
         long-kinds = length-set c.kinds at k ∙ s.long-kinds;
         count = omega (arith, s.count);
         ids = rw (add-one at, add-one i, take-suc-set c.ids at (get_or l.ids i d) p, take-suc l.ids i d r, s.ids) (append_assoc (ids_in c₀) (take i l.ids) (get_or l.ids i d ∷ []));
-        kinds = rw (add-one at, take-suc-set c.kinds at k q, s.kinds, ← replicate-append-replicate i 1 k) (append_assoc (kindsIn c₀) (replicate i k) (k ∷ []));
+        kinds = rw (add-one at, take-suc-set c.kinds at k q, s.kinds, ← replicate-append-replicate i 1 k) (append_assoc (kinds_in c₀) (replicate i k) (k ∷ []));
       }

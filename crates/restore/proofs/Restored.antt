@@ -6,73 +6,73 @@ use borrow.Author.Tests.{eq-eqb, ne_eqb}
 use Rattle.rules.specs.State.{State}
 use Rattle.rules.specs.Answers.{Verdict, fault, ok, settle}
 use Rattle.rules.specs.Restore as rules
-use Rattle.rules.specs.Restore.{restoreSteps, run}
-use Rattle.rules.proofs.Demand3.{allShort, restore-short}
+use Rattle.rules.specs.Restore.{restore_steps, run}
+use Rattle.rules.proofs.Demand3.{all_short, restore-short}
 use Rattle.rules.proofs.Numbers.{Numbered}
-use Rattle.tracker.specs.Apply.{outcomeOf, refusedOf}
+use Rattle.tracker.specs.Apply.{outcome_of, refused_of}
 use Rattle.tracker.specs.Bridge.{lists_of, state_of}
-use Rattle.tracker.specs.Form.{trackerWellFormed}
+use Rattle.tracker.specs.Form.{tracker_well_formed}
 use Rattle.tracker.specs.declared.ConfState.{ConfState}
 use Rattle.tracker.specs.declared.Outcome.{Outcome}
 use Rattle.tracker.specs.declared.Tracker.{Tracker}
-use Rattle.tracker.proofs.Bridge.{tracker-formed, unit-tracker}
-use Rattle.restore.specs.Restore.{restoreOf, stepByStepOf, tooLong, whole_of}
+use Rattle.tracker.proofs.Bridge.{tracker_formed, unit_tracker}
+use Rattle.restore.specs.Restore.{restore_of, step_by_step_of, too_long, whole_of}
 use Rattle.restore.proofs.Marked.{Marked}
 use Rattle.restore.proofs.Steps.{Left, run-left}
 use Rattle.restore.proofs.Answers.{passed, steps}
 
 -- past 1 and 2
-module _ (t : Tracker) (w : trackerWellFormed t ≡ true) (cs : ConfState) (f : tooLong cs ≡ false) (next : ℕ) where
-  pub steps-short : allShort (restoreSteps (lists_of cs))
+module _ (t : Tracker) (w : tracker_well_formed t ≡ true) (cs : ConfState) (f : too_long cs ≡ false) (next : ℕ) where
+  pub steps-short : all_short (restore_steps (lists_of cs))
   steps-short = restore-short (state_of t) (lists_of cs) (passed t w cs f next)
 
-  pub stepped : stepByStepOf t cs next ≡ outcomeOf (rules.restoreStepByStep (state_of t) (lists_of cs) next)
-  unfolding stepByStepOf
+  pub stepped : step_by_step_of t cs next ≡ outcome_of (rules.restore_step_by_step (state_of t) (lists_of cs) next)
+  unfolding step_by_step_of
   stepped = rw (w, f)
 
-  pub stepped-runs : stepByStepOf t cs next ≡ outcomeOf (run next (state_of t) (restoreSteps (lists_of cs)))
-  stepped-runs = sym (steps t w cs f next (restoreSteps (lists_of cs)) refl)
+  pub stepped_runs : step_by_step_of t cs next ≡ outcome_of (run next (state_of t) (restore_steps (lists_of cs)))
+  stepped_runs = sym (steps t w cs f next (restore_steps (lists_of cs)) refl)
 
-  pub restored : restoreOf t cs next ≡ outcomeOf (rules.restore (state_of t) (lists_of cs) next)
-  unfolding restoreOf
+  pub restored : restore_of t cs next ≡ outcome_of (rules.restore (state_of t) (lists_of cs) next)
+  unfolding restore_of
   restored = rw (w, f)
 
-  pub steps-left : Left (rules.restoreStepByStep (state_of t) (lists_of cs) next)
-  unfolding rules.restoreStepByStep
-  steps-left = rw (passed t w cs f next) (run-left next (restoreSteps (lists_of cs)) steps-short (state_of t) (tracker-formed t w))
+  pub steps-left : Left (rules.restore_step_by_step (state_of t) (lists_of cs) next)
+  unfolding rules.restore_step_by_step
+  steps-left = rw (passed t w cs f next) (run-left next (restore_steps (lists_of cs)) steps-short (state_of t) (tracker_formed t w))
 
   pub whole-left : Left (rules.restore (state_of t) (lists_of cs) next)
   unfolding rules.restore
-  whole-left = go (rules.restoreStepByStep (state_of t) (lists_of cs) next).verdict steps-left.marked
+  whole-left = go (rules.restore_step_by_step (state_of t) (lists_of cs) next).verdict steps-left.marked
     where
-      go : (v : Verdict) → Marked v → Left (settle v (state_of t) (rules.restoreStepByStep (state_of t) (lists_of cs) next).state)
+      go : (v : Verdict) → Marked v → Left (settle v (state_of t) (rules.restore_step_by_step (state_of t) (lists_of cs) next).state)
       go ok m = record { good = steps-left.good; marked = m }
-      go (fault n x) m = record { good = tracker-formed t w; marked = m }
+      go (fault n x) m = record { good = tracker_formed t w; marked = m }
 
 -- the one beside the other
 module _ (t : Tracker) (cs : ConfState) (next : ℕ) where
-  settled : trackerWellFormed t ≡ true → (v : Verdict) (u : State) → Marked v → outcomeOf (settle v (state_of t) u) ≡ whole_of t (outcomeOf (record { verdict = v; state = u }))
+  settled : tracker_well_formed t ≡ true → (v : Verdict) (u : State) → Marked v → outcome_of (settle v (state_of t) u) ≡ whole_of t (outcome_of (record { verdict = v; state = u }))
   unfolding whole_of Numbered
   settled w ok u m = refl
-  settled w (fault n x) u m = rw (m, unit-tracker t w)
+  settled w (fault n x) u m = rw (m, unit_tracker t w)
 
-  pub restore-whole : restoreOf t cs next ≡ whole_of t (stepByStepOf t cs next)
-  unfolding whole_of restoreOf stepByStepOf rules.restore
-  restore-whole = go (trackerWellFormed t) (tooLong cs) refl refl
+  pub restore-whole : restore_of t cs next ≡ whole_of t (step_by_step_of t cs next)
+  unfolding whole_of restore_of step_by_step_of rules.restore
+  restore-whole = go (tracker_well_formed t) (too_long cs) refl refl
     where
-      go : (w f : Bool) → trackerWellFormed t ≡ w → tooLong cs ≡ f → restoreOf t cs next ≡ whole_of t (stepByStepOf t cs next)
+      go : (w f : Bool) → tracker_well_formed t ≡ w → too_long cs ≡ f → restore_of t cs next ≡ whole_of t (step_by_step_of t cs next)
       go true true p q = rw (p, q)
       go true false p q =
-          rw (p, q) (settled p (rules.restoreStepByStep (state_of t) (lists_of cs) next).verdict (rules.restoreStepByStep (state_of t) (lists_of cs) next).state (steps-left t p cs q next).marked)
+          rw (p, q) (settled p (rules.restore_step_by_step (state_of t) (lists_of cs) next).verdict (rules.restore_step_by_step (state_of t) (lists_of cs) next).state (steps-left t p cs q next).marked)
       go false f p q = rw p
 
   -- what the code returns
-  pub made-whole : {o r : Outcome} → o ≡ stepByStepOf t cs next → r ≡ whole_of t o → r ≡ restoreOf t cs next
+  pub made-whole : {o r : Outcome} → o ≡ step_by_step_of t cs next → r ≡ whole_of t o → r ≡ restore_of t cs next
   made-whole e q = q ∙ ap (whole_of t) e ∙ sym restore-whole
 
 -- what `whole` returns
 module _ (t : Tracker) (o : Outcome) where
-  pub whole-refused : (o.number ≡ 0 → ⊥) → {r : Outcome} → r ≡ refusedOf t o.number o.id → r ≡ whole_of t o
+  pub whole-refused : (o.number ≡ 0 → ⊥) → {r : Outcome} → r ≡ refused_of t o.number o.id → r ≡ whole_of t o
   unfolding whole_of
   whole-refused h q = q ∙ rw (ne_eqb o.number 0 h)
 

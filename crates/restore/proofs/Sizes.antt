@@ -11,25 +11,25 @@ use Rattle.rules.specs.State.{Change}
 use Rattle.tracker.specs.declared.ConfState.{ConfState}
 use Rattle.tracker.specs.contracts.ConfState as F
 use Rattle.tracker.proofs.ConfState.TheLaws as F'
-use Rattle.tracker.proofs.Sizes.{list-sized}
+use Rattle.tracker.proofs.Sizes.{list_sized}
 use Rattle.restore.specs.Steps.{Listed}
 use Rattle.restore.specs.declared.Changes.{Changes}
 use Rattle.restore.specs.contracts.Changes as C
 use Rattle.restore.proofs.Changes.TheLaws as C'
 
 module _ {vs : List Val} (c : Changes) (p : Is C.the_row c vs) where
-  pub ids-sized : length c.ids ≡ 256
-  ids-sized = sym (length-map c.ids _) ∙ (LL.owed C.the_type C'.the_laws c vs p).0.1.0.1
+  pub ids_sized : length c.ids ≡ 256
+  ids_sized = sym (length-map c.ids _) ∙ (LL.owed C.the_type C'.the_laws c vs p).0.1.0.1
 
-  pub kinds-sized : length c.kinds ≡ 256
-  kinds-sized = sym (length-map c.kinds _) ∙ (LL.owed C.the_type C'.the_laws c vs p).1.0.1.0.1
+  pub kinds_sized : length c.kinds ≡ 256
+  kinds_sized = sym (length-map c.kinds _) ∙ (LL.owed C.the_type C'.the_laws c vs p).1.0.1.0.1
 
   -- a list that can be read has its places in both
   pub ids-room : {cs : List Change} → Listed c cs → c.len ≤ length c.ids
-  ids-room h = rw ids-sized h.few
+  ids-room h = rw ids_sized h.few
 
   pub kinds-room : {cs : List Change} → Listed c cs → c.len ≤ length c.kinds
-  kinds-room h = rw kinds-sized h.few
+  kinds-room h = rw kinds_sized h.few
 
-pub outgoing-sized : {vs : List Val} (cs : ConfState) → Is F.the_row cs vs → length cs.voters_outgoing.ids ≡ 64
-outgoing-sized {vs} cs p = list-sized cs.voters_outgoing (LL.owed F.the_type F'.the_laws cs vs p).1.1.0
+pub outgoing_sized : {vs : List Val} (cs : ConfState) → Is F.the_row cs vs → length cs.voters_outgoing.ids ≡ 64
+outgoing_sized {vs} cs p = list_sized cs.voters_outgoing (LL.owed F.the_type F'.the_laws cs vs p).1.1.0

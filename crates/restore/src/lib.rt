@@ -2,12 +2,12 @@
 // Rust's is `restore_step_by_step`: document 02, g).
 ghost use Rattle.std.specs.Prelude.{◌≡◌, true, false, [], ◌∷◌, ◌≤◌};
 ghost use Rattle.rules.specs.Calls.{kind_of};
-ghost use Rattle.rules.specs.Restore.{all, enterStep, oneByOne, wanted};
-ghost use Rattle.tracker.specs.Bridge.{entriesIn, lists_of};
-ghost use Rattle.tracker.specs.Form.{trackerWellFormed};
-ghost use Rattle.changer.specs.Calls.{simpleAnswer};
-ghost use Rattle.restore.specs.Restore.{appliedTo, whole_of, tooLong, steps_of, stepByStepOf, restoreOf};
-ghost use Rattle.restore.specs.Steps.{Appended, Listed, entered, jointSteps};
+ghost use Rattle.rules.specs.Restore.{all, enter_step, one_by_one, wanted};
+ghost use Rattle.tracker.specs.Bridge.{entries_in, lists_of};
+ghost use Rattle.tracker.specs.Form.{tracker_well_formed};
+ghost use Rattle.changer.specs.Calls.{simple_answer};
+ghost use Rattle.restore.specs.Restore.{applied_to, whole_of, too_long, steps_of, step_by_step_of, restore_of};
+ghost use Rattle.restore.specs.Steps.{Appended, Listed, entered, joint_steps};
 
 use changer::{Answer, enter_joint, simple};
 use tracker::apply::{applied, refused};
@@ -23,7 +23,7 @@ pub struct Changes {
 
 // The configuration described in the ConfState, or the state given: where a step is refused, none stays.
 pub fn restore(t: Tracker, cs: ConfState, next_idx: u64) -> Outcome
-    ensures { result ≡ restoreOf t cs next_idx }
+    ensures { result ≡ restore_of t cs next_idx }
 {
     let o = restore_step_by_step(t, cs, next_idx);
     whole(t, o)
@@ -41,7 +41,7 @@ pub fn whole(t: Tracker, o: Outcome) -> Outcome
 
 // Runs a sequence of changes enacting the configuration described in the ConfState. A refused step ends it; earlier steps stay.
 pub fn restore_step_by_step(t: Tracker, cs: ConfState, next_idx: u64) -> Outcome
-    ensures { result ≡ stepByStepOf t cs next_idx }
+    ensures { result ≡ step_by_step_of t cs next_idx }
 {
     if t.is_malformed() {
         return refused(t, numbers::MALFORMED, 0);
@@ -58,7 +58,7 @@ pub fn restore_step_by_step(t: Tracker, cs: ConfState, next_idx: u64) -> Outcome
 
 // Whether one of the four lists is over 64.
 fn too_long(cs: ConfState) -> bool
-    ensures { result ≡ tooLong cs }
+    ensures { result ≡ too_long cs }
 {
     let voters = cs.voters;
     if IdList::CAPACITY < voters.len {
@@ -78,8 +78,8 @@ fn too_long(cs: ConfState) -> bool
 
 // No outgoing: each voter, learner and staged id in list order as a `simple` of its own; the flag is ignored.
 fn restore_single(t: Tracker, cs: ConfState, next_idx: u64) -> Outcome
-    requires { trackerWellFormed t ≡ true }
-    ensures { result ≡ steps_of t next_idx (oneByOne (wanted (lists_of cs))) }
+    requires { tracker_well_formed t ≡ true }
+    ensures { result ≡ steps_of t next_idx (one_by_one (wanted (lists_of cs))) }
 {
     let voters = one_by_one(t, cs.voters, 0, next_idx);
     if voters.number != numbers::ACCEPTED {
@@ -96,8 +96,8 @@ fn restore_single(t: Tracker, cs: ConfState, next_idx: u64) -> Outcome
 
 // If there are outgoing voters, first add them one by one so that the (non-joint) config has them all; then enter.
 fn restore_joint(t: Tracker, cs: ConfState, next_idx: u64) -> Outcome
-    requires { (trackerWellFormed t ≡ true) × (tooLong cs ≡ false) }
-    ensures { result ≡ steps_of t next_idx (jointSteps cs) }
+    requires { (tracker_well_formed t ≡ true) × (too_long cs ≡ false) }
+    ensures { result ≡ steps_of t next_idx (joint_steps cs) }
 {
     let outgoing = one_by_one(t, cs.voters_outgoing, 0, next_idx);
     if outgoing.number != numbers::ACCEPTED {
@@ -109,8 +109,8 @@ fn restore_joint(t: Tracker, cs: ConfState, next_idx: u64) -> Outcome
 
 // One `enter_joint` with the changes that lead from the outgoing voters to the rest, and the flag.
 fn enter(t: Tracker, cs: ConfState, next_idx: u64) -> Outcome
-    requires { (trackerWellFormed t ≡ true) × (tooLong cs ≡ false) }
-    ensures { result ≡ steps_of t next_idx (enterStep cs.auto_leave (entered cs) ∷ []) }
+    requires { (tracker_well_formed t ≡ true) × (too_long cs ≡ false) }
+    ensures { result ≡ steps_of t next_idx (enter_step cs.auto_leave (entered cs) ∷ []) }
 {
     let incoming = to_conf_change_single(cs);
     let n = incoming.len;
@@ -122,8 +122,8 @@ fn enter(t: Tracker, cs: ConfState, next_idx: u64) -> Outcome
 
 // Each id of the list as a `simple` of its own, of this kind.
 fn one_by_one(t: Tracker, list: IdList, kind: u8, next_idx: u64) -> Outcome
-    requires { (trackerWellFormed t ≡ true) × (kind ≤ 2) }
-    ensures { result ≡ steps_of t next_idx (oneByOne (all (kind_of kind) (entriesIn list))) }
+    requires { (tracker_well_formed t ≡ true) × (kind ≤ 2) }
+    ensures { result ≡ steps_of t next_idx (one_by_one (all (kind_of kind) (entries_in list))) }
 {
     let mut o = refused(t, numbers::ACCEPTED, 0);
     let n = list.len;
@@ -144,7 +144,7 @@ fn one_by_one(t: Tracker, list: IdList, kind: u8, next_idx: u64) -> Outcome
 
 // One change as a `simple` of its own, applied.
 fn step(t: Tracker, id: u64, kind: u8, next_idx: u64) -> Outcome
-    ensures { result ≡ appliedTo t (simpleAnswer t (id ∷ []) (kind ∷ [])) next_idx }
+    ensures { result ≡ applied_to t (simple_answer t (id ∷ []) (kind ∷ [])) next_idx }
 {
     let ids = [id];
     let kinds = [kind];
@@ -154,7 +154,7 @@ fn step(t: Tracker, id: u64, kind: u8, next_idx: u64) -> Outcome
 
 // An accepted answer is applied at once to the state that it was asked of; a refused one leaves it.
 pub fn apply_answer(t: Tracker, a: Answer, next_idx: u64) -> Outcome
-    ensures { result ≡ appliedTo t a next_idx }
+    ensures { result ≡ applied_to t a next_idx }
 {
     if a.number != numbers::ACCEPTED {
         return refused(t, a.number, a.id);
@@ -167,7 +167,7 @@ pub fn apply_answer(t: Tracker, a: Answer, next_idx: u64) -> Outcome
 // Translates a conf state into the operations that, when applied to the config made of the outgoing voters, represent it: remove each outgoing,
 // add each voter, add-learner each learner, then each staged.
 fn to_conf_change_single(cs: ConfState) -> Changes
-    requires { tooLong cs ≡ false }
+    requires { too_long cs ≡ false }
     ensures { Listed result (entered cs) }
 {
     let none = Changes {

@@ -4,26 +4,26 @@ use mathlib.Core.Path.{◌≡◌, refl, ap, ◌∙◌, sym, fun_ext}
 use mathlib.Core.Bool.{Bool, true, false, ◌&&◌, ◌||◌, not, cond, false≢true}
 use mathlib.Core.List.{List, [], ◌∷◌, ◌++◌}
 use native.Mathlib.Omega.{arith}
-use borrow.Author.Tests.{ne_eqb, eqb-true, lt-leb, not-true}
+use borrow.Author.Tests.{ne_eqb, eqb-true, lt-leb, not_true}
 use lib.Dec.{eqb, leb}
 use lib.ListN.{length}
-use Rattle.progress.specs.Record.{freshRecord}
+use Rattle.progress.specs.Record.{fresh_record}
 use Rattle.progress.specs.declared.Progress.{Progress}
-use Rattle.rules.specs.Ids.{ascending, is_empty, memb, removeId}
+use Rattle.rules.specs.Ids.{ascending, is_empty, memb, remove_id}
 use Rattle.rules.specs.State.{Change, Conf, Kind, Peer, State, add, addLearner, addNode, ids, remove, removeNode}
 use Rattle.rules.specs.Answers.{accepted, ok}
-use Rattle.rules.specs.Check.{check, isTracked, joint}
-use Rattle.rules.specs.Table.{Effect, I, IO, L, O, OS, Places, Standing, adds, idle, none, place, places_of, removes, standingIn, stays, table}
-use Rattle.rules.specs.Changes.{Work, and_then, change, changes, done, logged, pending, pendingTracked}
-use Rattle.rules.specs.Calls.{difference, enterOf, entering, gone, leaveOf, leaving, removals, simpleOf, start, withAuto}
+use Rattle.rules.specs.Check.{check, is_tracked, joint}
+use Rattle.rules.specs.Table.{Effect, I, IO, L, O, OS, Places, Standing, adds, idle, none, place, places_of, removes, standing_in, stays, table}
+use Rattle.rules.specs.Changes.{Work, and_then, change, changes, done, logged, pending, pending_tracked}
+use Rattle.rules.specs.Calls.{difference, enter_of, entering, gone, leave_of, leaving, removals, simple_of, start, with_auto}
 use Rattle.rules.specs.Apply.{enrol, room}
-use Rattle.rules.specs.Boxes.{Box, changeBox}
-use Rattle.rules.proofs.Sets.{and_left, and_right, ascending-remove, length_part, length-remove, memb-remove}
-use Rattle.rules.proofs.Plain.{changesBox}
-use Rattle.rules.proofs.Boxes.{Sound, boxAt, spot}
-use Rattle.rules.proofs.Changes.{After, Fine, change-done, changes-done, here, ids-enrol, last_says, now, stands_here, tracked-now}
+use Rattle.rules.specs.Boxes.{Box, change_box}
+use Rattle.rules.proofs.Sets.{and_left, and_right, ascending_remove, length_part, length_remove, memb_remove}
+use Rattle.rules.proofs.Plain.{changes_box}
+use Rattle.rules.proofs.Boxes.{Sound, box_at, spot}
+use Rattle.rules.proofs.Changes.{After, Fine, change-done, changes-done, here, ids-enrol, last_says_lem, now, stands_here, tracked-now}
 use Rattle.rules.proofs.Check.{Passes, check-of, passes_of}
-use Rattle.rules.proofs.Steps.{Checked, Ordered, auto-sound, enter-sound, leave-sound}
+use Rattle.rules.proofs.Steps.{Checked, Ordered, auto_sound, enter_sound, leave_sound}
 
 -- ** At one of the seven standings the check finds no fault
 
@@ -39,26 +39,26 @@ lawful p =
     implies p.incoming p.tracked && implies p.outgoing p.tracked && implies p.learner p.tracked && implies p.staged p.tracked
     && implies p.learner (not p.outgoing) && implies p.learner (not p.incoming) && implies p.staged p.outgoing
 
-lawful-places : (st : Standing) → lawful (places_of st) ≡ true
-lawful-places none = refl
-lawful-places idle = refl
-lawful-places I = refl
-lawful-places L = refl
-lawful-places O = refl
-lawful-places IO = refl
-lawful-places OS = refl
+lawful_places : (st : Standing) → lawful (places_of st) ≡ true
+lawful_places none = refl
+lawful_places idle = refl
+lawful_places I = refl
+lawful_places L = refl
+lawful_places O = refl
+lawful_places IO = refl
+lawful_places OS = refl
 
-pub passes-sound : (c : Conf) (ps : List Peer) → Sound c ps → not (joint c) && c.autoLeave ≡ false → Passes (λ y. memb y (ids ps)) c
-passes-sound c ps s q =
+pub passes_sound : (c : Conf) (ps : List Peer) → Sound c ps → not (joint c) && c.auto_leave ≡ false → Passes (λ y. memb y (ids ps)) c
+passes_sound c ps s q =
     record {
       incoming-tracked = λ y. apply (i y) (t y) (and_left (a1 y) (a2 y) (h2 y));
       outgoing-tracked = λ y. apply (o y) (t y) (and_right (a1 y) (a2 y) (h2 y));
       learner-tracked = λ y. apply (l y) (t y) (and_right (a1 y && a2 y) (a3 y) (h3 y));
-      learner-not-outgoing = λ y m. not-true (o y) (apply (l y) (not (o y)) (and_right (a1 y && a2 y && a3 y && a4 y) (a5 y) (h5 y)) m);
-      learner-not-incoming = λ y m. not-true (i y) (apply (l y) (not (i y)) (and_right (a1 y && a2 y && a3 y && a4 y && a5 y) (a6 y) (h6 y)) m);
+      learner-not-outgoing = λ y m. not_true (o y) (apply (l y) (not (o y)) (and_right (a1 y && a2 y && a3 y && a4 y) (a5 y) (h5 y)) m);
+      learner-not-incoming = λ y m. not_true (i y) (apply (l y) (not (i y)) (and_right (a1 y && a2 y && a3 y && a4 y && a5 y) (a6 y) (h6 y)) m);
       staged-tracked = λ y. apply (g y) (t y) (and_right (a1 y && a2 y && a3 y) (a4 y) (h4 y));
       staged-outgoing = λ y. apply (g y) (o y) (and_right (a1 y && a2 y && a3 y && a4 y && a5 y && a6 y) (a7 y) (h7 y));
-      single-quiet = q;
+      single_quiet = q;
     }
   where
     t : ℕ → Bool
@@ -98,7 +98,7 @@ passes-sound c ps s q =
     a7 y = implies (g y) (o y)
 
     h7 : (y : ℕ) → a1 y && a2 y && a3 y && a4 y && a5 y && a6 y && a7 y ≡ true
-    h7 y = ap lawful (s.stands y) ∙ lawful-places (standingIn (spot c ps y))
+    h7 y = ap lawful (s.stands y) ∙ lawful_places (standing_in (spot c ps y))
 
     h6 : (y : ℕ) → a1 y && a2 y && a3 y && a4 y && a5 y && a6 y ≡ true
     h6 y = and_left (a1 y && a2 y && a3 y && a4 y && a5 y && a6 y) (a7 y) (h7 y)
@@ -121,34 +121,34 @@ module _ (u : State) (o : Checked u) (r : Progress) (j : joint u.conf ≡ false)
   abbrev up : ascending (ids u.peers) ≡ true
   up = o.sound.ids↑
 
-  recheck : (w : Work) (c : Conf) → Sound c (now r u.peers up w) → not (joint c) && c.autoLeave ≡ false → check (pendingTracked (ids u.peers) w.log) c ≡ ok
-  recheck w c s q = rw (fun_ext (tracked-now r u.peers up w)) (check-of (λ y. memb y (ids (now r u.peers up w))) c (passes-sound c (now r u.peers up w) s q))
+  recheck : (w : Work) (c : Conf) → Sound c (now r u.peers up w) → not (joint c) && c.auto_leave ≡ false → check (pending_tracked (ids u.peers) w.log) c ≡ ok
+  recheck w c s q = rw (fun_ext (tracked-now r u.peers up w)) (check-of (λ y. memb y (ids (now r u.peers up w))) c (passes_sound c (now r u.peers up w) s q))
 
-  pub fine-start : Fine r u.peers up (start u.conf)
+  pub fine_start : Fine r u.peers up (start u.conf)
   unfolding enrol pending room
-  fine-start = record { sound = o.sound; fits = refl; few = o.few }
+  fine_start = record { sound = o.sound; fits = refl; few = o.few }
 
-  pub fine-enter : Fine r u.peers up (start (entering u.conf))
+  pub fine_enter : Fine r u.peers up (start (entering u.conf))
   unfolding enrol pending room
-  fine-enter = record { sound = enter-sound u.conf u.peers o.sound j; fits = refl; few = o.few }
+  fine_enter = record { sound = enter_sound u.conf u.peers o.sound j; fits = refl; few = o.few }
 
   module _ (cs : List Change) (w : Work) (v : is_empty w.conf.incoming ≡ false) where
-    pub simple-accepted : changes (ids u.peers) cs (start u.conf) ≡ done w → leb 2 (difference w.conf.incoming u.conf.incoming) ≡ false → simpleOf u cs ≡ accepted w.conf w.log
-    unfolding simpleOf
+    pub simple-accepted : changes (ids u.peers) cs (start u.conf) ≡ done w → leb 2 (difference w.conf.incoming u.conf.incoming) ≡ false → simple_of u cs ≡ accepted w.conf w.log
+    unfolding simple_of
     simple-accepted e d = rw (j, o.checked, e, v, d, recheck w w.conf a.fine.sound quiet)
       where
         a : After r u.peers up cs (start u.conf) w
-        a = changes-done r u.peers up cs (start u.conf) w e fine-start
+        a = changes-done r u.peers up cs (start u.conf) w e fine_start
 
-        quiet : not (joint w.conf) && w.conf.autoLeave ≡ false
-        quiet = rw (a.outgoing, a.auto) (passes_of (isTracked u) u.conf o.checked).single-quiet
+        quiet : not (joint w.conf) && w.conf.auto_leave ≡ false
+        quiet = rw (a.outgoing, a.auto) (passes_of (is_tracked u) u.conf o.checked).single_quiet
 
-    pub enter-accepted : (auto : Bool) → is_empty u.conf.incoming ≡ false → changes (ids u.peers) cs (start (entering u.conf)) ≡ done w → enterOf u auto cs ≡ accepted (withAuto auto w.conf) w.log
-    unfolding enterOf
-    enter-accepted auto n e = rw (j, o.checked, n, e, v, recheck w (withAuto auto w.conf) (auto-sound auto w.conf (now r u.peers up w) a.fine.sound) quiet)
+    pub enter-accepted : (auto : Bool) → is_empty u.conf.incoming ≡ false → changes (ids u.peers) cs (start (entering u.conf)) ≡ done w → enter_of u auto cs ≡ accepted (with_auto auto w.conf) w.log
+    unfolding enter_of
+    enter-accepted auto n e = rw (j, o.checked, n, e, v, recheck w (with_auto auto w.conf) (auto_sound auto w.conf (now r u.peers up w) a.fine.sound) quiet)
       where
         a : After r u.peers up cs (start (entering u.conf)) w
-        a = changes-done r u.peers up cs (start (entering u.conf)) w e fine-enter
+        a = changes-done r u.peers up cs (start (entering u.conf)) w e fine_enter
 
         quiet : not (joint w.conf) && auto ≡ false
         quiet = rw (a.outgoing, n)
@@ -157,35 +157,35 @@ module _ (u : State) (o : Checked u) (r : Progress) (j : joint u.conf ≡ false)
 
 module _ (s : State) (o : Ordered s) (j : joint s.conf ≡ true) where
   abbrev r₀ : Progress
-  r₀ = freshRecord 0 0
+  r₀ = fresh_record 0 0
 
   abbrev stay : List Peer
   stay = enrol r₀ (removals (gone s.conf)) s.peers
 
-  tracked-then : pendingTracked (ids s.peers) (removals (gone s.conf)) ≡ (λ y. memb y (ids stay))
-  tracked-then = fun_ext (λ y. last_says y (removals (gone s.conf)) (ids s.peers) o.sound.ids↑ ∙ ap (memb y) (sym (ids-enrol r₀ (removals (gone s.conf)) s.peers)))
+  tracked_then : pending_tracked (ids s.peers) (removals (gone s.conf)) ≡ (λ y. memb y (ids stay))
+  tracked_then = fun_ext (λ y. last_says_lem y (removals (gone s.conf)) (ids s.peers) o.sound.ids↑ ∙ ap (memb y) (sym (ids-enrol r₀ (removals (gone s.conf)) s.peers)))
 
-  leave-checked : check (pendingTracked (ids s.peers) (removals (gone s.conf))) (leaving s.conf) ≡ ok
-  leave-checked = rw tracked-then (check-of (λ y. memb y (ids stay)) (leaving s.conf) (passes-sound (leaving s.conf) stay (leave-sound r₀ s.conf s.peers o.sound) refl))
+  leave-checked : check (pending_tracked (ids s.peers) (removals (gone s.conf))) (leaving s.conf) ≡ ok
+  leave-checked = rw tracked_then (check-of (λ y. memb y (ids stay)) (leaving s.conf) (passes_sound (leaving s.conf) stay (leave_sound r₀ s.conf s.peers o.sound) refl))
 
-  pub leave-accepted : leaveOf s ≡ accepted (leaving s.conf) (removals (gone s.conf))
-  unfolding leaveOf
+  pub leave-accepted : leave_of s ≡ accepted (leaving s.conf) (removals (gone s.conf))
+  unfolding leave_of
   leave-accepted = rw (j, o.checked, leave-checked)
 
 -- ** Where every id has its place among 64, no change is refused with 16
 
-length-strict : (x : ℕ) (xs ys : List ℕ) → ascending xs ≡ true → ascending ys ≡ true → ((y : ℕ) → memb y xs ≡ true → memb y ys ≡ true) → memb x ys ≡ true → memb x xs ≡ false → length xs < length ys
-length-strict x xs ys a b h m n = omega (arith, length-remove x ys m, length_part xs (removeId x ys) a (ascending-remove x ys b) go)
+length_strict : (x : ℕ) (xs ys : List ℕ) → ascending xs ≡ true → ascending ys ≡ true → ((y : ℕ) → memb y xs ≡ true → memb y ys ≡ true) → memb x ys ≡ true → memb x xs ≡ false → length xs < length ys
+length_strict x xs ys a b h m n = omega (arith, length_remove x ys m, length_part xs (remove_id x ys) a (ascending_remove x ys b) go)
   where
-    go : (y : ℕ) → memb y xs ≡ true → memb y (removeId x ys) ≡ true
-    go y k = memb-remove x y ys b ∙ rw (ne_eqb x y (λ e. false≢true (sym n ∙ ap (λ (z : ℕ). memb z xs) e ∙ k)), h y k)
+    go : (y : ℕ) → memb y xs ≡ true → memb y (remove_id x ys) ≡ true
+    go y k = memb_remove x y ys b ∙ rw (ne_eqb x y (λ e. false≢true (sym n ∙ ap (λ (z : ℕ). memb z xs) e ∙ k)), h y k)
 
-abbrev isAdds : Effect → Bool
-isAdds stays = false
-isAdds adds = true
-isAdds removes = false
+abbrev is_adds : Effect → Bool
+is_adds stays = false
+is_adds adds = true
+is_adds removes = false
 
-adds-untracked : (st : Standing) (k : Kind) → isAdds (table st k).1 ≡ true → (places_of st).tracked ≡ false
+adds-untracked : (st : Standing) (k : Kind) → is_adds (table st k).1 ≡ true → (places_of st).tracked ≡ false
 unfolding table
 adds-untracked none addNode h = refl
 adds-untracked none addLearner h = refl
@@ -227,33 +227,33 @@ module _ (r : Progress) (ps : List Peer) (up : ascending (ids ps) ≡ true) (T :
       to : Conf
       to = place c.id (table st c.kind).0 w.conf
 
-      out : isAdds (table st c.kind).1 ≡ true → memb c.id (ids (now r ps up w)) ≡ false
+      out : is_adds (table st c.kind).1 ≡ true → memb c.id (ids (now r ps up w)) ≡ false
       out e = ap (λ (p : Places). p.tracked) (stands_here r ps up c w f) ∙ adds-untracked st c.kind e
 
-      short : isAdds (table st c.kind).1 ≡ true → length (pending w.log (ids ps)) < 64
-      short e = rw (← ids-enrol r w.log ps) (omega (arith, length-strict c.id (ids (now r ps up w)) T f.sound.ids↑ T↑ n m (out e)))
+      short : is_adds (table st c.kind).1 ≡ true → length (pending w.log (ids ps)) < 64
+      short e = rw (← ids-enrol r w.log ps) (omega (arith, length_strict c.id (ids (now r ps up w)) T f.sound.ids↑ T↑ n m (out e)))
 
       go : (b : Bool) (e : Effect) → (table st c.kind).1 ≡ e → (v : Work) × (cond b (done w) (logged e (ids ps) c.id to w.log) ≡ done v)
       go true e q = (w, refl)
       go false stays q = (record { conf = to; log = w.log }, refl)
-      go false adds q = (record { conf = to; log = w.log ++ (add c.id ∷ []) }, rw (lt-leb 64 (length (pending w.log (ids ps))) (short (ap isAdds q))))
+      go false adds q = (record { conf = to; log = w.log ++ (add c.id ∷ []) }, rw (lt-leb 64 (length (pending w.log (ids ps))) (short (ap is_adds q))))
       go false removes q = (record { conf = to; log = w.log ++ (remove c.id ∷ []) }, refl)
 
   within-one : (c : Change) (w v : Work) → After r ps up (c ∷ []) w v → Fine r ps up w → memb c.id T ≡ true → Within w → Within v
-  unfolding changesBox
+  unfolding changes_box
   within-one c w v a f m n y k = go (eqb c.id y) refl
     where
       go : (b : Bool) → eqb c.id y ≡ b → memb y T ≡ true
       go true e = ap (λ (z : ℕ). memb z T) (sym (eqb-true c.id y e)) ∙ m
       go false e =
-          let same : boxAt v.conf (now r ps up v) y ≡ boxAt w.conf (now r ps up w) y =
-          a.boxes y ∙ ap (λ (b : Bool). cond (b && not (eqb y 0)) (changeBox r c.kind (boxAt w.conf (now r ps up w) y)) (boxAt w.conf (now r ps up w) y)) e in
+          let same : box_at v.conf (now r ps up v) y ≡ box_at w.conf (now r ps up w) y =
+          a.boxes y ∙ ap (λ (b : Bool). cond (b && not (eqb y 0)) (change_box r c.kind (box_at w.conf (now r ps up w) y)) (box_at w.conf (now r ps up w) y)) e in
           n y (ap (λ (p : Places). p.tracked) (f.sound.stands y) ∙ sym (ap (λ (b : Box). (places_of b.standing).tracked) same) ∙ sym (ap (λ (p : Places). p.tracked) (a.fine.sound.stands y)) ∙ k)
 
-  pub changes-fit : (cs : List Change) (w : Work) → Fine r ps up w → Within w → inside cs → (v : Work) × (changes (ids ps) cs w ≡ done v) × Within v
+  pub changes_fit : (cs : List Change) (w : Work) → Fine r ps up w → Within w → inside cs → (v : Work) × (changes (ids ps) cs w ≡ done v) × Within v
   unfolding changes
-  changes-fit [] w f n h = (w, refl, n)
-  changes-fit (c ∷ cs) w f n h = go (change-fits c w f n h.0) (λ u. changes-fit cs u)
+  changes_fit [] w f n h = (w, refl, n)
+  changes_fit (c ∷ cs) w f n h = go (change-fits c w f n h.0) (λ u. changes_fit cs u)
     where
       go : (v : Work) × (change (ids ps) c w ≡ done v)
           → ((u : Work) → Fine r ps up u → Within u → inside cs → (v : Work) × (changes (ids ps) cs u ≡ done v) × Within v)

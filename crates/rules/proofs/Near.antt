@@ -52,5 +52,5 @@ near x xs ys a b h = go (memb x xs) refl
     go false m = lt-leb 2 (length (minus xs ys) + length (minus ys xs)) (omega (arith, one x ys xs b a back, only x xs ys a b h (rw m)))
 
 -- as a set does from itself
-pub near-itself : (xs : List ℕ) → ascending xs ≡ true → leb 2 (difference xs xs) ≡ false
-near-itself xs a = near 0 xs xs a a (λ y e. refl)
+pub near_itself : (xs : List ℕ) → ascending xs ≡ true → leb 2 (difference xs xs) ≡ false
+near_itself xs a = near 0 xs xs a a (λ y e. refl)

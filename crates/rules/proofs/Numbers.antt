@@ -5,13 +5,13 @@ use mathlib.Core.Bool.{Bool, true, false, ◌&&◌, ◌||◌, not}
 use mathlib.Core.List.{List, [], ◌∷◌}
 use lib.Dec.{eqb, ltb, leb}
 use lib.ListN.{length}
-use Rattle.rules.specs.Ids.{insertAll, is_empty, memb}
+use Rattle.rules.specs.Ids.{insert_all, is_empty, memb}
 use Rattle.rules.specs.State.{Conf, State, ids}
 use Rattle.rules.specs.Answers.{Answer, Verdict, ◌⇒◌, ◌▸◌, accepted, each, fault, ok, refuse, refused}
-use Rattle.rules.specs.Check.{check, isTracked, joint}
-use Rattle.rules.specs.Changes.{Done, Work, changes, done, full, pendingTracked}
-use Rattle.rules.specs.Calls.{afterwards, difference, enterOf, entering, gone, leaveOf, leaving, readable, removals, simpleOf, start, withAuto}
-use Rattle.rules.specs.Restore.{Step, ask, enterStep, leaveStep, simpleStep}
+use Rattle.rules.specs.Check.{check, is_tracked, joint}
+use Rattle.rules.specs.Changes.{Done, Work, changes, done, full, pending_tracked}
+use Rattle.rules.specs.Calls.{afterwards, difference, enter_of, entering, gone, leave_of, leaving, readable, removals, simple_of, start, with_auto}
+use Rattle.rules.specs.Restore.{Step, ask, enter_step, leave_step, simple_step}
 
 unfoldable pub Numbered : (ℕ → Type 0) → Verdict → Type 0
 Numbered P ok = Unit {0}
@@ -29,20 +29,20 @@ module _ (P : ℕ → Type 0) where
   refuse-numbered true n x h = h
   refuse-numbered false n x h = tt
 
-  pub then-numbered : (u v : Verdict) → Numbered P u → Numbered P v → Numbered P (u ▸ v)
-  then-numbered ok v h k = k
-  then-numbered (fault n x) v h k = h
+  pub then_numbered : (u v : Verdict) → Numbered P u → Numbered P v → Numbered P (u ▸ v)
+  then_numbered ok v h k = k
+  then_numbered (fault n x) v h k = h
 
   pub each-numbered : (f : ℕ → Verdict) → ((x : ℕ) → Numbered P (f x)) → (xs : List ℕ) → Numbered P (each f xs)
   unfolding Numbered each
   each-numbered f h [] = tt
-  each-numbered f h (x ∷ xs) = then-numbered (f x) (each f xs) (h x) (each-numbered f h xs)
+  each-numbered f h (x ∷ xs) = then_numbered (f x) (each f xs) (h x) (each-numbered f h xs)
 
   -- 2, 3
   pub readable-numbered : P 2 → P 3 → (xs ks : List ℕ) → Numbered P (readable xs ks)
   unfolding readable
   readable-numbered two three xs ks =
-      then-numbered _ _ (refuse-numbered (not (eqb (length xs) (length ks)) || ltb 256 (length xs)) 2 0 two) (each-numbered _ (λ k. refuse-numbered (ltb 2 k) 3 0 three) ks)
+      then_numbered _ _ (refuse-numbered (not (eqb (length xs) (length ks)) || ltb 256 (length xs)) 2 0 two) (each-numbered _ (λ k. refuse-numbered (ltb 2 k) 3 0 three) ks)
 
   -- 7 to 14
   pub check-numbered : ((n : ℕ) → ltb 6 n ≡ true → P n) → (t : ℕ → Bool) (c : Conf) → Numbered P (check t c)
@@ -50,13 +50,13 @@ module _ (P : ℕ → Type 0) where
   check-numbered h t c =
       let out : ℕ → Bool = λ x. memb x c.outgoing in
       let into : ℕ → Bool = λ x. memb x c.incoming in
-      then-numbered _ _ (each-numbered _ (λ x. refuse-numbered (not (t x)) 7 x (h 7 refl)) (insertAll c.incoming c.outgoing))
-      (then-numbered _ _
-      (each-numbered _ (λ x. then-numbered _ _ (refuse-numbered (not (t x)) 8 x (h 8 refl))
-      (then-numbered _ _ (refuse-numbered (out x) 9 x (h 9 refl)) (refuse-numbered (into x) 10 x (h 10 refl)))) c.learners)
-      (then-numbered _ _
-      (each-numbered _ (λ x. then-numbered _ _ (refuse-numbered (not (t x)) 11 x (h 11 refl)) (refuse-numbered (not (out x)) 12 x (h 12 refl))) c.staged)
-      (then-numbered _ _ (refuse-numbered (not (joint c) && not (is_empty c.staged)) 13 0 (h 13 refl)) (refuse-numbered (not (joint c) && c.autoLeave) 14 0 (h 14 refl)))))
+      then_numbered _ _ (each-numbered _ (λ x. refuse-numbered (not (t x)) 7 x (h 7 refl)) (insert_all c.incoming c.outgoing))
+      (then_numbered _ _
+      (each-numbered _ (λ x. then_numbered _ _ (refuse-numbered (not (t x)) 8 x (h 8 refl))
+      (then_numbered _ _ (refuse-numbered (out x) 9 x (h 9 refl)) (refuse-numbered (into x) 10 x (h 10 refl)))) c.learners)
+      (then_numbered _ _
+      (each-numbered _ (λ x. then_numbered _ _ (refuse-numbered (not (t x)) 11 x (h 11 refl)) (refuse-numbered (not (out x)) 12 x (h 12 refl))) c.staged)
+      (then_numbered _ _ (refuse-numbered (not (joint c) && not (is_empty c.staged)) 13 0 (h 13 refl)) (refuse-numbered (not (joint c) && c.auto_leave) 14 0 (h 14 refl)))))
 
   -- ** Steps
 
@@ -73,25 +73,25 @@ module _ (P : ℕ → Type 0) where
 
     -- 4 to 6, 15 to 18, and what the check gives
     pub asked-numbered : (s : State) (p : Step) → NumberedAnswer P (ask s p)
-    unfolding ask simpleOf enterOf leaveOf NumberedAnswer
-    asked-numbered s (simpleStep cs) =
-        given-numbered _ _ (then-numbered _ _ (refuse-numbered (joint s.conf) 6 0 (h 6 refl refl)) (checks (isTracked s) s.conf))
+    unfolding ask simple_of enter_of leave_of NumberedAnswer
+    asked-numbered s (simple_step cs) =
+        given-numbered _ _ (then_numbered _ _ (refuse-numbered (joint s.conf) 6 0 (h 6 refl refl)) (checks (is_tracked s) s.conf))
         (done-numbered (changes (ids s.peers) cs (start s.conf)) _ (λ w.
         given-numbered _ _
-        (then-numbered _ _ (refuse-numbered (is_empty w.conf.incoming) 17 0 (h 17 refl refl))
-        (then-numbered _ _ (refuse-numbered (leb 2 (difference w.conf.incoming s.conf.incoming)) 18 0 (h 18 refl refl))
-        (checks (pendingTracked (ids s.peers) w.log) w.conf)))
+        (then_numbered _ _ (refuse-numbered (is_empty w.conf.incoming) 17 0 (h 17 refl refl))
+        (then_numbered _ _ (refuse-numbered (leb 2 (difference w.conf.incoming s.conf.incoming)) 18 0 (h 18 refl refl))
+        (checks (pending_tracked (ids s.peers) w.log) w.conf)))
         tt))
-    asked-numbered s (enterStep auto cs) =
+    asked-numbered s (enter_step auto cs) =
         given-numbered _ _
-        (then-numbered _ _ (refuse-numbered (joint s.conf) 4 0 (h 4 refl refl))
-        (then-numbered _ _ (checks (isTracked s) s.conf) (refuse-numbered (is_empty s.conf.incoming) 15 0 (h 15 refl refl))))
+        (then_numbered _ _ (refuse-numbered (joint s.conf) 4 0 (h 4 refl refl))
+        (then_numbered _ _ (checks (is_tracked s) s.conf) (refuse-numbered (is_empty s.conf.incoming) 15 0 (h 15 refl refl))))
         (done-numbered (changes (ids s.peers) cs (start (entering s.conf))) _ (λ w.
         given-numbered _ _
-        (then-numbered _ _ (refuse-numbered (is_empty w.conf.incoming) 17 0 (h 17 refl refl)) (checks (pendingTracked (ids s.peers) w.log) (withAuto auto w.conf)))
+        (then_numbered _ _ (refuse-numbered (is_empty w.conf.incoming) 17 0 (h 17 refl refl)) (checks (pending_tracked (ids s.peers) w.log) (with_auto auto w.conf)))
         tt))
-    asked-numbered s leaveStep =
+    asked-numbered s leave_step =
         given-numbered _ _
-        (then-numbered _ _ (refuse-numbered (not (joint s.conf)) 5 0 (h 5 refl refl))
-        (then-numbered _ _ (checks (isTracked s) s.conf) (checks (pendingTracked (ids s.peers) (removals (gone s.conf))) (leaving s.conf))))
+        (then_numbered _ _ (refuse-numbered (not (joint s.conf)) 5 0 (h 5 refl refl))
+        (then_numbered _ _ (checks (is_tracked s) s.conf) (checks (pending_tracked (ids s.peers) (removals (gone s.conf))) (leaving s.conf))))
         tt

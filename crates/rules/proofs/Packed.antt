@@ -5,10 +5,10 @@ use mathlib.Core.Bool.{Bool, true, false, cond}
 use mathlib.Core.List.{List, [], ◌∷◌, ◌++◌}
 use native.Mathlib.Omega.{arith}
 use lib.Dec.{ltb}
-use lib.ListN.{length, drop, length-append}
-use lib.Seq.{drop-append_seam}
-use Rattle.rules.specs.Wire.{Front, cut, num, more, front, found, judged, varintOf, groups}
-use Rattle.rules.specs.Message.{Below, faulty, all, carried, fronts, before, gathered, packed, packedOf}
+use lib.ListN.{length, drop, length_append}
+use lib.Seq.{drop_append_seam}
+use Rattle.rules.specs.Wire.{Front, cut, num, more, front, found, judged, varint_of, groups}
+use Rattle.rules.specs.Message.{Below, faulty, all, carried, fronts, before, gathered, packed, packed_of}
 use Rattle.rules.proofs.Wire.{fits-yes, front-groups, varint-length}
 
 -- ** The first number apart
@@ -55,19 +55,19 @@ packed-num (b ∷ bs) e = ap gathered (fronts-split b bs ∙ ap (split (b ∷ bs
 
 -- ** What was packed
 
-packed-one : (x : ℕ) (rest : List ℕ) → x < 2 ^ 64 → packed (varintOf x ++ rest) ≡ before (found x (length (varintOf x))) (packed rest)
-unfolding varintOf
+packed-one : (x : ℕ) (rest : List ℕ) → x < 2 ^ 64 → packed (varint_of x ++ rest) ≡ before (found x (length (varint_of x))) (packed rest)
+unfolding varint_of
 packed-one x rest h =
     packed-num (groups 10 x ++ rest) (front-groups 9 x rest (omega arith))
-    ∙ rw (fits-yes x (length (groups 10 x)) (varint-length x) h) (ap (λ (l : List ℕ). before (found x (length (groups 10 x))) (packed l)) (drop-append_seam (groups 10 x) rest))
+    ∙ rw (fits-yes x (length (groups 10 x)) (varint-length x) h) (ap (λ (l : List ℕ). before (found x (length (groups 10 x))) (packed l)) (drop_append_seam (groups 10 x) rest))
 
-pub numbers-back : (xs : List ℕ) → Below xs → packed (packedOf xs) ≡ all xs
-unfolding packedOf
+pub numbers-back : (xs : List ℕ) → Below xs → packed (packed_of xs) ≡ all xs
+unfolding packed_of
 numbers-back [] h = packed_none
-numbers-back (x ∷ xs) h = packed-one x (packedOf xs) h.0 ∙ ap (before (found x (length (varintOf x)))) (numbers-back xs h.1)
+numbers-back (x ∷ xs) h = packed-one x (packed_of xs) h.0 ∙ ap (before (found x (length (varint_of x)))) (numbers-back xs h.1)
 
 -- ten bytes for a number are enough
-pub packed-size : (xs : List ℕ) → length (packedOf xs) ≤ 10 * length xs
-unfolding packedOf
+pub packed-size : (xs : List ℕ) → length (packed_of xs) ≤ 10 * length xs
+unfolding packed_of
 packed-size [] = omega arith
-packed-size (x ∷ xs) = omega (arith, length-append (varintOf x) (packedOf xs), varint-length x, packed-size xs)
+packed-size (x ∷ xs) = omega (arith, length_append (varint_of x) (packed_of xs), varint-length x, packed-size xs)

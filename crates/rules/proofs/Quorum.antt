@@ -4,16 +4,16 @@ use mathlib.Core.Path.{◌≡◌, refl, ap, ◌∙◌, sym}
 use mathlib.Core.Bool.{Bool, true, false, ◌&&◌, ◌||◌, not, cond, false≢true}
 use mathlib.Core.List.{List, [], ◌∷◌}
 use native.Mathlib.Omega.{arith}
-use borrow.Author.Tests.{leb-false, lt-ltb, ltb-true}
+use borrow.Author.Tests.{leb-false, lt-ltb, ltb_true}
 use lib.Dec.{eqb, leb}
 use lib.ListN.{length}
 use Rattle.rules.specs.Ids.{ascending, is_empty, memb, minus}
 use Rattle.rules.specs.State.{Conf}
 use Rattle.rules.specs.Check.{joint}
 use Rattle.rules.specs.Calls.{difference}
-use Rattle.rules.specs.Quorum.{Group, InCommon, Neighbours, count, everyone, isVoter, moreThanHalf, quorum}
-use Rattle.rules.proofs.Sets.{and_left, and_right, ascending-ext, ascending-keep, keep, memb-head, memb-keep, minus-keep, or-true}
-use Rattle.rules.proofs.Near.{near-itself}
+use Rattle.rules.specs.Quorum.{Group, InCommon, Neighbours, count, everyone, is_voter, more_than_half, quorum}
+use Rattle.rules.proofs.Sets.{and_left, and_right, ascending_ext, ascending-keep, keep, memb_head, memb-keep, minus-keep, or_true}
+use Rattle.rules.proofs.Near.{near_itself}
 
 -- ** Counting
 
@@ -22,10 +22,10 @@ unfolding count
 count-everyone [] = refl
 count-everyone (x ∷ xs) = ap suc (count-everyone xs)
 
-count-le : (g : Group) (xs : List ℕ) → count g xs ≤ length xs
+count_le : (g : Group) (xs : List ℕ) → count g xs ≤ length xs
 unfolding count
-count-le g [] = omega arith
-count-le g (x ∷ xs) = go (g x) (count-le g xs)
+count_le g [] = omega arith
+count_le g (x ∷ xs) = go (g x) (count_le g xs)
   where
     go : (b : Bool) → count g xs ≤ length xs → cond b (suc (count g xs)) (count g xs) ≤ suc (length xs)
     go true ih = omega arith
@@ -60,12 +60,12 @@ overlap g h (x ∷ xs) k = go (g x) refl (h x) refl k (overlap g h xs)
   where
     further : Meeting g h xs xs → Meeting g h (x ∷ xs) (x ∷ xs)
     further m =
-        let here : memb m.box (x ∷ xs) ≡ true = or-true (eqb x m.box) (memb m.box xs) m.one in
+        let here : memb m.box (x ∷ xs) ≡ true = or_true (eqb x m.box) (memb m.box xs) m.one in
         record { box = m.box; first = m.first; second = m.second; one = here; other = here }
 
     go : (b : Bool) → g x ≡ b → (c : Bool) → h x ≡ c → suc (length xs) < cond b (suc (count g xs)) (count g xs) + cond c (suc (count h xs)) (count h xs)
         → (length xs < count g xs + count h xs → Meeting g h xs xs) → Meeting g h (x ∷ xs) (x ∷ xs)
-    go true p true q k ih = record { box = x; first = p; second = q; one = memb-head x xs; other = memb-head x xs }
+    go true p true q k ih = record { box = x; first = p; second = q; one = memb_head x xs; other = memb_head x xs }
     go true p false q k ih = further (ih (omega arith))
     go false p true q k ih = further (ih (omega arith))
     go false p false q k ih = further (ih (omega arith))
@@ -76,9 +76,9 @@ overlap g h (x ∷ xs) k = go (g x) refl (h x) refl k (overlap g h xs)
 abbrev common : List ℕ → List ℕ → List ℕ
 common xs ys = keep (λ x. memb x ys) xs
 
-common-swap : (xs ys : List ℕ) → ascending xs ≡ true → ascending ys ≡ true → common xs ys ≡ common ys xs
-common-swap xs ys a b =
-    ascending-ext (common xs ys) (common ys xs) (ascending-keep (λ x. memb x ys) xs a) (ascending-keep (λ x. memb x xs) ys b)
+common_swap : (xs ys : List ℕ) → ascending xs ≡ true → ascending ys ≡ true → common xs ys ≡ common ys xs
+common_swap xs ys a b =
+    ascending_ext (common xs ys) (common ys xs) (ascending-keep (λ x. memb x ys) xs a) (ascending-keep (λ x. memb x xs) ys b)
     (λ y. memb-keep y (λ x. memb x ys) xs ∙ swap (memb y xs) (memb y ys) ∙ sym (memb-keep y (λ x. memb x xs) ys))
   where
     swap : (c d : Bool) → c && d ≡ d && c
@@ -88,11 +88,11 @@ common-swap xs ys a b =
     swap false false = refl
 
 -- of xs, a group has no more than it has of what both have, and what ys lacks
-count-common : (g : Group) (xs ys : List ℕ) → count g xs ≤ count g (common xs ys) + length (minus xs ys)
-count-common g xs ys = rw (minus-keep xs ys) (omega (arith, count-parts g (λ x. memb x ys) xs, count-le g (keep (λ x. not (memb x ys)) xs)))
+count_common : (g : Group) (xs ys : List ℕ) → count g xs ≤ count g (common xs ys) + length (minus xs ys)
+count_common g xs ys = rw (minus-keep xs ys) (omega (arith, count-parts g (λ x. memb x ys) xs, count_le g (keep (λ x. not (memb x ys)) xs)))
 
-length-common : (xs ys : List ℕ) → length xs ≡ length (common xs ys) + length (minus xs ys)
-length-common xs ys =
+length_common : (xs ys : List ℕ) → length xs ≡ length (common xs ys) + length (minus xs ys)
+length_common xs ys =
     rw (minus-keep xs ys)
     (omega (
       arith,
@@ -103,22 +103,22 @@ length-common xs ys =
     ))
 
 pub meet : (g h : Group) (xs ys : List ℕ) → ascending xs ≡ true → ascending ys ≡ true → leb 2 (difference ys xs) ≡ false
-    → moreThanHalf g xs ≡ true → moreThanHalf h ys ≡ true → Meeting g h xs ys
+    → more_than_half g xs ≡ true → more_than_half h ys ≡ true → Meeting g h xs ys
 meet g h xs ys a b d p q = go (overlap g h (common xs ys) covered)
   where
     covered : length (common xs ys) < count g (common xs ys) + count h (common xs ys)
     covered =
-        let same : count h (common ys xs) ≡ count h (common xs ys) = ap (count h) (common-swap ys xs b a) in
-        let long : length (common ys xs) ≡ length (common xs ys) = ap length (common-swap ys xs b a) in
+        let same : count h (common ys xs) ≡ count h (common xs ys) = ap (count h) (common_swap ys xs b a) in
+        let long : length (common ys xs) ≡ length (common xs ys) = ap length (common_swap ys xs b a) in
         let few : length (minus ys xs) + length (minus xs ys) < 2 = leb-false 2 (length (minus ys xs) + length (minus xs ys)) d in
         omega (
           arith,
-          length-common xs ys,
-          length-common ys xs,
-          count-common g xs ys,
-          count-common h ys xs,
-          ltb-true (length xs) (count g xs + count g xs) p,
-          ltb-true (length ys) (count h ys + count h ys) q,
+          length_common xs ys,
+          length_common ys xs,
+          count_common g xs ys,
+          count_common h ys xs,
+          ltb_true (length xs) (count g xs + count g xs) p,
+          ltb_true (length ys) (count h ys + count h ys) q,
         )
 
     go : Meeting g h (common xs ys) (common xs ys) → Meeting g h xs ys
@@ -136,14 +136,14 @@ meet g h xs ys a b d p q = go (overlap g h (common xs ys) covered)
 
 -- of these voters every quorum has more than half
 pub record Half (c : Conf) (xs : List ℕ) : Type 0 where
-  pub most : (g : Group) → quorum g c ≡ true → moreThanHalf g xs ≡ true
-  pub voters : (x : ℕ) → memb x xs ≡ true → isVoter c x ≡ true
+  pub most : (g : Group) → quorum g c ≡ true → more_than_half g xs ≡ true
+  pub voters : (x : ℕ) → memb x xs ≡ true → is_voter c x ≡ true
 
 pub half-incoming : (c : Conf) → Half c c.incoming
 unfolding quorum
 half-incoming c =
     record {
-      most = λ g q. and_left (moreThanHalf g c.incoming) _ q;
+      most = λ g q. and_left (more_than_half g c.incoming) _ q;
       voters = λ x m. rw m;
     }
 
@@ -151,8 +151,8 @@ pub half-outgoing : (c : Conf) → joint c ≡ true → Half c c.outgoing
 unfolding quorum
 half-outgoing c j =
     record {
-      most = λ g q. go (joint c) j (moreThanHalf g c.outgoing) (and_right (moreThanHalf g c.incoming) _ q);
-      voters = λ x m. or-true (memb x c.incoming) (memb x c.outgoing) m;
+      most = λ g q. go (joint c) j (more_than_half g c.outgoing) (and_right (more_than_half g c.incoming) _ q);
+      voters = λ x m. or_true (memb x c.incoming) (memb x c.outgoing) m;
     }
   where
     go : (b : Bool) → b ≡ true → (m : Bool) → not b || m ≡ true → m ≡ true
@@ -160,7 +160,7 @@ half-outgoing c j =
     go false e m k = absurd (false≢true e)
 
 -- everyone is more than half of a set that is not empty
-all_most : (xs : List ℕ) → is_empty xs ≡ false → moreThanHalf everyone xs ≡ true
+all_most : (xs : List ℕ) → is_empty xs ≡ false → more_than_half everyone xs ≡ true
 all_most [] e = absurd (false≢true (sym e))
 all_most (x ∷ xs) e = rw (count-everyone (x ∷ xs)) (lt-ltb (suc (length xs)) (suc (length xs) + suc (length xs)) (omega arith))
 
@@ -168,7 +168,7 @@ pub all-quorum : (c : Conf) → is_empty c.incoming ≡ false → quorum everyon
 unfolding quorum
 all-quorum c v = rw (all_most c.incoming v) (go (is_empty c.outgoing) refl)
   where
-    go : (b : Bool) → is_empty c.outgoing ≡ b → not (not b) || moreThanHalf everyone c.outgoing ≡ true
+    go : (b : Bool) → is_empty c.outgoing ≡ b → not (not b) || more_than_half everyone c.outgoing ≡ true
     go true e = refl
     go false e = all_most c.outgoing e
 
@@ -177,7 +177,7 @@ pub voterless : (c : Conf) → is_empty c.incoming ≡ true → (g : Group) → 
 unfolding quorum count
 voterless c v g = rw (nothing c.incoming v)
   where
-    nothing : (xs : List ℕ) → is_empty xs ≡ true → moreThanHalf g xs ≡ false
+    nothing : (xs : List ℕ) → is_empty xs ≡ true → more_than_half g xs ≡ false
     nothing [] e = refl
     nothing (x ∷ xs) e = absurd (false≢true e)
 
@@ -185,8 +185,8 @@ voterless c v g = rw (nothing c.incoming v)
 
 module _ (c d : Conf) (voter : is_empty c.incoming ≡ false → is_empty d.incoming ≡ false) where
   -- by sets that differ in one id at most, of which every quorum has more than half
-  pub by-halves : (xs ys : List ℕ) → Half c xs → Half d ys → ascending xs ≡ true → ascending ys ≡ true → leb 2 (difference ys xs) ≡ false → Neighbours c d
-  by-halves xs ys m n a b near =
+  pub by_halves : (xs ys : List ℕ) → Half c xs → Half d ys → ascending xs ≡ true → ascending ys ≡ true → leb 2 (difference ys xs) ≡ false → Neighbours c d
+  by_halves xs ys m n a b near =
       record {
         share = λ g h p q. go g h (meet g h xs ys a b near (m.most g p) (n.most h q));
         quorums = λ v. (all-quorum c v, all-quorum d (voter v));
@@ -197,10 +197,10 @@ module _ (c d : Conf) (voter : is_empty c.incoming ≡ false → is_empty d.inco
 
   -- simple: incoming differs in one id at most
   pub by-incoming : ascending c.incoming ≡ true → ascending d.incoming ≡ true → leb 2 (difference d.incoming c.incoming) ≡ false → Neighbours c d
-  by-incoming = by-halves c.incoming d.incoming (half-incoming c) (half-incoming d)
+  by-incoming = by_halves c.incoming d.incoming (half-incoming c) (half-incoming d)
 
   -- entering: outgoing is what incoming was
   pub by-outgoing : ascending c.incoming ≡ true → is_empty c.incoming ≡ false → d.outgoing ≡ c.incoming → Neighbours c d
   by-outgoing a v e =
-      by-halves c.incoming d.outgoing (half-incoming c) (half-outgoing d (ap (λ (l : List ℕ). not (is_empty l)) e ∙ ap not v)) a (rw e a)
-      (rw e (near-itself c.incoming a))
+      by_halves c.incoming d.outgoing (half-incoming c) (half-outgoing d (ap (λ (l : List ℕ). not (is_empty l)) e ∙ ap not v)) a (rw e a)
+      (rw e (near_itself c.incoming a))

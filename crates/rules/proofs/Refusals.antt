@@ -8,33 +8,33 @@ use borrow.Author.Tests.{eqb-true, eqb-false}
 use lib.Dec.{eqb, leb, ltb}
 use lib.ListN.{length, take, drop}
 use Rattle.rules.specs.State.{ConfState}
-use Rattle.rules.specs.Apply.{noConfState}
-use Rattle.rules.specs.Wire.{Front, cut, num, front, Found, bad, found, fits, judged, varintIn, Payload, varint, fixed, bytes, single, fixedIn, lengthIn, payloadIn, Field, numbered, held, tagged, fieldIn, Row, end, fault, next, onward, row_of, row}
-use Rattle.rules.specs.Message.{Answered, accepted, cut_short, malformed, too_many, Numbers, faulty, all, fronts, lower, before, gathered, packed, numbers, grown, Read, refused, taken, withVoters, withLearners, withOutgoing, with_next, listed, flagged, entered, goOn, readRow, read, numberRead}
+use Rattle.rules.specs.Apply.{no_conf_state}
+use Rattle.rules.specs.Wire.{Front, cut, num, front, Found, bad, found, fits, judged, varint_in, Payload, varint, fixed, bytes, single, fixed_in, length_in, payload_in, Field, numbered, held, tagged, field_in, Row, end, fault, next, onward, row_of, row}
+use Rattle.rules.specs.Message.{Answered, accepted, cut_short, malformed, too_many, Numbers, faulty, all, fronts, lower, before, gathered, packed, numbers, grown, Read, refused, taken, with_voters, with_learners, with_outgoing, with_next, listed, flagged, entered, go_on, read_row, read, number_read}
 
 -- ** The numbers of a refusal
 
 abbrev pub Named : ℕ → Type 0
 Named e = (28 ≤ e) × (e ≤ 30)
 
-at-28 : Named 28
-at-28 = (omega arith, omega arith)
+at_28 : Named 28
+at_28 = (omega arith, omega arith)
 
-at-29 : Named 29
-at-29 = (omega arith, omega arith)
+at_29 : Named 29
+at_29 = (omega arith, omega arith)
 
-at-30 : Named 30
-at-30 = (omega arith, omega arith)
+at_30 : Named 30
+at_30 = (omega arith, omega arith)
 
 -- what the wire alone refuses
 abbrev pub Early : ℕ → Type 0
 Early e = (28 ≤ e) × (e ≤ 29)
 
-early-28 : Early 28
-early-28 = (omega arith, omega arith)
+early_28 : Early 28
+early_28 = (omega arith, omega arith)
 
-early-29 : Early 29
-early-29 = (omega arith, omega arith)
+early_29 : Early 29
+early_29 = (omega arith, omega arith)
 
 named : {e : ℕ} → Early e → Named e
 named h = (h.0, omega (arith, h.1))
@@ -59,54 +59,54 @@ InRead (taken m) = Unit {0}
 
 -- ** A varint, a field, a row
 
-in-judged : (f : Front) → InFound (judged f)
-in-judged cut = early-28
-in-judged (num v n) = by (fits v n)
+in_judged : (f : Front) → InFound (judged f)
+in_judged cut = early_28
+in_judged (num v n) = by (fits v n)
   where
     by : (t : Bool) → InFound (cond t (found v n) (bad 29))
     by true = tt
-    by false = early-29
+    by false = early_29
 
-in-varint : (l : List ℕ) → InFound (varintIn l)
-unfolding varintIn
-in-varint l = in-judged (front l)
+in_varint : (l : List ℕ) → InFound (varint_in l)
+unfolding varint_in
+in_varint l = in_judged (front l)
 
-pub varint-named : (l : List ℕ) {e : ℕ} → varintIn l ≡ bad e → Named e
-varint-named l h = named (subst InFound h (in-varint l))
+pub varint-named : (l : List ℕ) {e : ℕ} → varint_in l ≡ bad e → Named e
+varint-named l h = named (subst InFound h (in_varint l))
 
-in-single : (x : Found ℕ) → InFound x → InFound (single x)
-in-single (bad e) h = h
-in-single (found v n) h = tt
+in_single : (x : Found ℕ) → InFound x → InFound (single x)
+in_single (bad e) h = h
+in_single (found v n) h = tt
 
-in-fixed : (n : ℕ) (l : List ℕ) → InFound (fixedIn n l)
-in-fixed n l = by (leb n (length l))
+in_fixed : (n : ℕ) (l : List ℕ) → InFound (fixed_in n l)
+in_fixed n l = by (leb n (length l))
   where
     by : (t : Bool) → InFound (cond t (found fixed n) (bad 28))
     by true = tt
-    by false = early-28
+    by false = early_28
 
-in-length : (l : List ℕ) (x : Found ℕ) → InFound x → InFound (lengthIn l x)
-in-length l (bad e) h = h
-in-length l (found v n) h = by (leb v (length l - n))
+in_length : (l : List ℕ) (x : Found ℕ) → InFound x → InFound (length_in l x)
+in_length l (bad e) h = h
+in_length l (found v n) h = by (leb v (length l - n))
   where
     by : (t : Bool) → InFound (cond t (found (bytes (take v (drop n l))) (n + v)) (bad 28))
     by true = tt
-    by false = early-28
+    by false = early_28
 
-in-payload : (w : ℕ) (l : List ℕ) → InFound (payloadIn w l)
-unfolding payloadIn
-in-payload w l = by (eqb w 0) (eqb w 1) (eqb w 2) (eqb w 5)
+in_payload : (w : ℕ) (l : List ℕ) → InFound (payload_in w l)
+unfolding payload_in
+in_payload w l = by (eqb w 0) (eqb w 1) (eqb w 2) (eqb w 5)
   where
     by : (a b c d : Bool) → InFound
-        (cond a (single (varintIn l)) (cond b (fixedIn 8 l) (cond c (lengthIn l (varintIn l)) (cond d (fixedIn 4 l) (bad 29)))))
-    by true b c d = in-single (varintIn l) (in-varint l)
-    by false true c d = in-fixed 8 l
-    by false false true d = in-length l (varintIn l) (in-varint l)
-    by false false false true = in-fixed 4 l
-    by false false false false = early-29
+        (cond a (single (varint_in l)) (cond b (fixed_in 8 l) (cond c (length_in l (varint_in l)) (cond d (fixed_in 4 l) (bad 29)))))
+    by true b c d = in_single (varint_in l) (in_varint l)
+    by false true c d = in_fixed 8 l
+    by false false true d = in_length l (varint_in l) (in_varint l)
+    by false false false true = in_fixed 4 l
+    by false false false false = early_29
 
-pub payload-named : (w : ℕ) (l : List ℕ) {e : ℕ} → payloadIn w l ≡ bad e → Early e
-payload-named w l h = subst InFound h (in-payload w l)
+pub payload-named : (w : ℕ) (l : List ℕ) {e : ℕ} → payload_in w l ≡ bad e → Early e
+payload-named w l h = subst InFound h (in_payload w l)
 
 in_held : (f n : ℕ) (x : Found Payload) → InFound x → InFound (held f n x)
 in_held f n (bad e) h = h
@@ -114,25 +114,25 @@ in_held f n (found p k) h = by (numbered f)
   where
     by : (t : Bool) → InFound {A = Field} (cond t (found (record { number = f; payload = p }) (n + k)) (bad 29))
     by true = tt
-    by false = early-29
+    by false = early_29
 
-in-tagged : (l : List ℕ) (x : Found ℕ) → InFound x → InFound (tagged l x)
-in-tagged l (bad e) h = h
-in-tagged l (found t n) h = in_held (t / 8) n (payloadIn (t % 8) (drop n l)) (in-payload (t % 8) (drop n l))
+in_tagged : (l : List ℕ) (x : Found ℕ) → InFound x → InFound (tagged l x)
+in_tagged l (bad e) h = h
+in_tagged l (found t n) h = in_held (t / 8) n (payload_in (t % 8) (drop n l)) (in_payload (t % 8) (drop n l))
 
-in_field : (l : List ℕ) → InFound (fieldIn l)
-unfolding fieldIn
-in_field l = in-tagged l (varintIn l) (in-varint l)
+in_field : (l : List ℕ) → InFound (field_in l)
+unfolding field_in
+in_field l = in_tagged l (varint_in l) (in_varint l)
 
-pub field-named : (l : List ℕ) {e : ℕ} → fieldIn l ≡ bad e → Named e
+pub field-named : (l : List ℕ) {e : ℕ} → field_in l ≡ bad e → Named e
 field-named l h = named (subst InFound h (in_field l))
 
 in_row : (k : ℕ) (l : List ℕ) → InRow (row_of k l)
 unfolding row_of
 in_row zero [] = tt
-in_row zero (b ∷ bs) = at-28
+in_row zero (b ∷ bs) = at_28
 in_row (suc k) [] = tt
-in_row (suc k) (b ∷ bs) = by (in_row k) (fieldIn (b ∷ bs)) (in_field (b ∷ bs))
+in_row (suc k) (b ∷ bs) = by (in_row k) (field_in (b ∷ bs)) (in_field (b ∷ bs))
   where
     by : ((l : List ℕ) → InRow (row_of k l)) → (x : Found Field) → InFound x → InRow (onward x (λ n. row_of k (drop n (b ∷ bs))))
     by r (bad e) h = named h
@@ -140,91 +140,91 @@ in_row (suc k) (b ∷ bs) = by (in_row k) (fieldIn (b ∷ bs)) (in_field (b ∷ 
 
 -- ** The numbers of a list, a field taken in
 
-in-lower : {e : ℕ} → Named e → (x : Numbers) → InNumbers x → InNumbers (lower e x)
-in-lower {e} h (faulty d) k = by (ltb e d)
+in_lower : {e : ℕ} → Named e → (x : Numbers) → InNumbers x → InNumbers (lower e x)
+in_lower {e} h (faulty d) k = by (ltb e d)
   where
     by : (t : Bool) → Named (cond t e d)
     by true = h
     by false = k
-in-lower h (all xs) k = h
+in_lower h (all xs) k = h
 
-in-before : (x : Found ℕ) (r : Numbers) → InFound x → InNumbers r → InNumbers (before x r)
-in-before (bad e) r h k = in-lower (named h) r k
-in-before (found v n) (faulty d) h k = k
-in-before (found v n) (all xs) h k = tt
+in_before : (x : Found ℕ) (r : Numbers) → InFound x → InNumbers r → InNumbers (before x r)
+in_before (bad e) r h k = in_lower (named h) r k
+in_before (found v n) (faulty d) h k = k
+in_before (found v n) (all xs) h k = tt
 
-in-gathered : (fs : List Front) → InNumbers (gathered fs)
+in_gathered : (fs : List Front) → InNumbers (gathered fs)
 unfolding gathered
-in-gathered [] = tt
-in-gathered (f ∷ fs) = in-before (judged f) (gathered fs) (in-judged f) (in-gathered fs)
+in_gathered [] = tt
+in_gathered (f ∷ fs) = in_before (judged f) (gathered fs) (in_judged f) (in_gathered fs)
 
-in-numbers : (p : Payload) → InNumbers (numbers p)
+in_numbers : (p : Payload) → InNumbers (numbers p)
 unfolding packed
-in-numbers (varint v) = tt
-in-numbers fixed = at-29
-in-numbers (bytes l) = in-gathered (fronts l)
+in_numbers (varint v) = tt
+in_numbers fixed = at_29
+in_numbers (bytes l) = in_gathered (fronts l)
 
-in-grown : (old : List ℕ) (x : Numbers) → InNumbers x → InNumbers (grown old x)
-in-grown old (faulty e) h = h
-in-grown old (all xs) h = by (leb (length (old ++ xs)) 64)
+in_grown : (old : List ℕ) (x : Numbers) → InNumbers x → InNumbers (grown old x)
+in_grown old (faulty e) h = h
+in_grown old (all xs) h = by (leb (length (old ++ xs)) 64)
   where
     by : (t : Bool) → InNumbers (cond t (all (old ++ xs)) (faulty 30))
     by true = tt
-    by false = at-30
+    by false = at_30
 
-in-more : (old : List ℕ) (p : Payload) → InNumbers (grown old (numbers p))
-in-more old p = in-grown old (numbers p) (in-numbers p)
+in_more : (old : List ℕ) (p : Payload) → InNumbers (grown old (numbers p))
+in_more old p = in_grown old (numbers p) (in_numbers p)
 
 pub grown-named : (old : List ℕ) (p : Payload) {e : ℕ} → grown old (numbers p) ≡ faulty e → Named e
-grown-named old p h = subst InNumbers h (in-more old p)
+grown-named old p h = subst InNumbers h (in_more old p)
 
-in-listed : (put : List ℕ → ConfState) (x : Numbers) → InNumbers x → InRead (listed put x)
-in-listed put (faulty e) h = h
-in-listed put (all xs) h = tt
+in_listed : (put : List ℕ → ConfState) (x : Numbers) → InNumbers x → InRead (listed put x)
+in_listed put (faulty e) h = h
+in_listed put (all xs) h = tt
 
-in-flagged : (p : Payload) (m : ConfState) → InRead (flagged p m)
-in-flagged (varint v) m = tt
-in-flagged fixed m = at-29
-in-flagged (bytes l) m = at-29
+in_flagged : (p : Payload) (m : ConfState) → InRead (flagged p m)
+in_flagged (varint v) m = tt
+in_flagged fixed m = at_29
+in_flagged (bytes l) m = at_29
 
-in-entered : (f : Field) (m : ConfState) → InRead (entered f m)
+in_entered : (f : Field) (m : ConfState) → InRead (entered f m)
 unfolding entered
-in-entered f m = by (eqb f.number 1) (eqb f.number 2) (eqb f.number 3) (eqb f.number 4) (eqb f.number 5)
+in_entered f m = by (eqb f.number 1) (eqb f.number 2) (eqb f.number 3) (eqb f.number 4) (eqb f.number 5)
   where
     by : (a b c d e : Bool) → InRead
-        (cond a (listed (λ xs. withVoters xs m) (grown m.voters (numbers f.payload)))
-        (cond b (listed (λ xs. withLearners xs m) (grown m.learners (numbers f.payload)))
-        (cond c (listed (λ xs. withOutgoing xs m) (grown m.votersOutgoing (numbers f.payload)))
-        (cond d (listed (λ xs. with_next xs m) (grown m.learnersNext (numbers f.payload)))
+        (cond a (listed (λ xs. with_voters xs m) (grown m.voters (numbers f.payload)))
+        (cond b (listed (λ xs. with_learners xs m) (grown m.learners (numbers f.payload)))
+        (cond c (listed (λ xs. with_outgoing xs m) (grown m.voters_outgoing (numbers f.payload)))
+        (cond d (listed (λ xs. with_next xs m) (grown m.learners_next (numbers f.payload)))
         (cond e (flagged f.payload m) (taken m))))))
-    by true b c d e = in-listed (λ xs. withVoters xs m) (grown m.voters (numbers f.payload)) (in-more m.voters f.payload)
-    by false true c d e = in-listed (λ xs. withLearners xs m) (grown m.learners (numbers f.payload)) (in-more m.learners f.payload)
-    by false false true d e = in-listed (λ xs. withOutgoing xs m) (grown m.votersOutgoing (numbers f.payload)) (in-more m.votersOutgoing f.payload)
-    by false false false true e = in-listed (λ xs. with_next xs m) (grown m.learnersNext (numbers f.payload)) (in-more m.learnersNext f.payload)
-    by false false false false true = in-flagged f.payload m
+    by true b c d e = in_listed (λ xs. with_voters xs m) (grown m.voters (numbers f.payload)) (in_more m.voters f.payload)
+    by false true c d e = in_listed (λ xs. with_learners xs m) (grown m.learners (numbers f.payload)) (in_more m.learners f.payload)
+    by false false true d e = in_listed (λ xs. with_outgoing xs m) (grown m.voters_outgoing (numbers f.payload)) (in_more m.voters_outgoing f.payload)
+    by false false false true e = in_listed (λ xs. with_next xs m) (grown m.learners_next (numbers f.payload)) (in_more m.learners_next f.payload)
+    by false false false false true = in_flagged f.payload m
     by false false false false false = tt
 
 pub entered-named : (f : Field) (m : ConfState) {e : ℕ} → entered f m ≡ refused e → Named e
-entered-named f m h = subst InRead h (in-entered f m)
+entered-named f m h = subst InRead h (in_entered f m)
 
 -- ** The message
 
-in-read-row : (r : Row) (m : ConfState) → InRow r → InRead (readRow r m)
-unfolding readRow
-in-read-row end m h = tt
-in-read-row (fault e) m h = h
-in-read-row (next f r) m h = by (λ n. in-read-row r n h) (entered f m) (in-entered f m)
+in_read_row : (r : Row) (m : ConfState) → InRow r → InRead (read_row r m)
+unfolding read_row
+in_read_row end m h = tt
+in_read_row (fault e) m h = h
+in_read_row (next f r) m h = by (λ n. in_read_row r n h) (entered f m) (in_entered f m)
   where
-    by : ((n : ConfState) → InRead (readRow r n)) → (x : Read) → InRead x → InRead (goOn x (readRow r))
+    by : ((n : ConfState) → InRead (read_row r n)) → (x : Read) → InRead x → InRead (go_on x (read_row r))
     by s (refused e) k = k
     by s (taken n) k = s n
 
-in-read : (l : List ℕ) → InRead (read l)
+in_read : (l : List ℕ) → InRead (read l)
 unfolding read row
-in-read l = in-read-row (row_of (length l) l) noConfState (in_row (length l) l)
+in_read l = in_read_row (row_of (length l) l) no_conf_state (in_row (length l) l)
 
 pub read_named : (l : List ℕ) {e : ℕ} → read l ≡ refused e → Named e
-read_named l h = subst InRead h (in-read l)
+read_named l h = subst InRead h (in_read l)
 
 -- the number answered is 0, or 28, 29 or 30
 answered : (e : ℕ) → Named e → Answered e
@@ -235,9 +235,9 @@ answered e h = by (eqb e 28) refl (eqb e 29) refl
     by false p true q = malformed (eqb-true e 29 q)
     by false p false q = too_many (omega (arith, h.0, h.1, eqb-false e 28 p, eqb-false e 29 q))
 
-pub accepted-or-named : (l : List ℕ) → Answered (numberRead (read l))
-accepted-or-named l = by (read l) (in-read l)
+pub accepted_or_named : (l : List ℕ) → Answered (number_read (read l))
+accepted_or_named l = by (read l) (in_read l)
   where
-    by : (r : Read) → InRead r → Answered (numberRead r)
+    by : (r : Read) → InRead r → Answered (number_read r)
     by (refused e) h = answered e h
     by (taken m) h = accepted refl

@@ -6,22 +6,22 @@ use mathlib.Core.List.{List, ◌++◌, append-nil}
 use lib.Dec.{eqb, leb}
 use lib.ListN.{length}
 use Rattle.progress.specs.declared.Progress.{Progress}
-use Rattle.rules.specs.Ids.{ascending, insertId, memb, removeId}
+use Rattle.rules.specs.Ids.{ascending, insert_id, memb, remove_id}
 use Rattle.rules.specs.State.{Change, Conf, Entry, Kind, Peer, addLearner, addNode, ids, removeNode}
-use Rattle.rules.specs.Table.{Effect, I, IO, L, O, OS, Places, Standing, adds, idle, none, place, placesIn, places_of, put, removes, stays, table}
-use Rattle.rules.specs.Changes.{Work, change, done, full, logged, pending, pendingTracked}
-use Rattle.rules.specs.Rust.{by_kind, rustChange, tracks, work}
-use Rattle.rules.proofs.Sets.{ascending-ext, ascending-insert, ascending-remove, insert-same, memb-insert, memb-remove, remove-none}
+use Rattle.rules.specs.Table.{Effect, I, IO, L, O, OS, Places, Standing, adds, idle, none, place, places_in, places_of, put, removes, stays, table}
+use Rattle.rules.specs.Changes.{Work, change, done, full, logged, pending, pending_tracked}
+use Rattle.rules.specs.Rust.{by_kind, rust_change, tracks, work}
+use Rattle.rules.proofs.Sets.{ascending_ext, ascending_insert, ascending_remove, insert_same, memb_insert, memb_remove, remove_none}
 use Rattle.rules.proofs.Changes.{Fine, entries, here, logged-done, tracked-now}
 
 keep : (b : Bool) (x : ℕ) (xs : List ℕ) → ascending xs ≡ true → memb x xs ≡ b → put b x xs ≡ xs
-keep true x xs a h = insert-same x xs a h
-keep false x xs a h = remove-none x xs h
+keep true x xs a h = insert_same x xs a h
+keep false x xs a h = remove_none x xs h
 
-insert-remove : (x : ℕ) (xs : List ℕ) → ascending xs ≡ true → insertId x (removeId x xs) ≡ insertId x xs
-insert-remove x xs a =
-    ascending-ext (insertId x (removeId x xs)) (insertId x xs) (ascending-insert x (removeId x xs) (ascending-remove x xs a)) (ascending-insert x xs a)
-    (λ y. rw (memb-insert x y (removeId x xs), memb-insert x y xs, memb-remove x y xs a) (go (eqb x y) (memb y xs)))
+insert_remove : (x : ℕ) (xs : List ℕ) → ascending xs ≡ true → insert_id x (remove_id x xs) ≡ insert_id x xs
+insert_remove x xs a =
+    ascending_ext (insert_id x (remove_id x xs)) (insert_id x xs) (ascending_insert x (remove_id x xs) (ascending_remove x xs a)) (ascending_insert x xs a)
+    (λ y. rw (memb_insert x y (remove_id x xs), memb_insert x y xs, memb_remove x y xs a) (go (eqb x y) (memb y xs)))
   where
     go : (e m : Bool) → e || (not e && m) ≡ e || m
     go true m = refl
@@ -32,64 +32,64 @@ module _ (x : ℕ) (t : Bool) (w : Work) (i : ascending w.conf.incoming ≡ true
   moved to = record { conf = place x to.0 w.conf; log = w.log ++ entries to.1 x }
 
   -- at each of the standings, one change is the set operations of its kind
-  pub table-agrees : (st : Standing) (k : Kind) → placesIn t w.conf x ≡ places_of st → by_kind k t x w ≡ moved (table st k)
+  pub table_agrees : (st : Standing) (k : Kind) → places_in t w.conf x ≡ places_of st → by_kind k t x w ≡ moved (table st k)
   unfolding table
-  table-agrees none addNode q = rw (ap (λ (p : Places). p.tracked) q, remove-none x w.conf.learners (ap (λ (p : Places). p.learner) q), remove-none x w.conf.staged (ap (λ (p : Places). p.staged) q))
-  table-agrees none addLearner q = rw (ap (λ (p : Places). p.tracked) q, remove-none x w.conf.incoming (ap (λ (p : Places). p.incoming) q), remove-none x w.conf.staged (ap (λ (p : Places). p.staged) q))
-  table-agrees none removeNode q = rw (ap (λ (p : Places). p.tracked) q, append-nil, remove-none x w.conf.incoming (ap (λ (p : Places). p.incoming) q), remove-none x w.conf.learners (ap (λ (p : Places). p.learner) q), remove-none x w.conf.staged (ap (λ (p : Places). p.staged) q))
-  table-agrees idle addNode q = rw (ap (λ (p : Places). p.tracked) q, append-nil)
-  table-agrees idle addLearner q = rw (ap (λ (p : Places). p.tracked) q, ap (λ (p : Places). p.learner) q, ap (λ (p : Places). p.outgoing) q, append-nil, insert-remove x w.conf.learners l)
-  table-agrees idle removeNode q = rw (ap (λ (p : Places). p.tracked) q, ap (λ (p : Places). p.outgoing) q)
-  table-agrees I addNode q = rw (ap (λ (p : Places). p.tracked) q, append-nil)
-  table-agrees I addLearner q = rw (ap (λ (p : Places). p.tracked) q, ap (λ (p : Places). p.learner) q, ap (λ (p : Places). p.outgoing) q, append-nil, insert-remove x w.conf.learners l)
-  table-agrees I removeNode q = rw (ap (λ (p : Places). p.tracked) q, ap (λ (p : Places). p.outgoing) q)
-  table-agrees L addNode q = rw (ap (λ (p : Places). p.tracked) q, append-nil)
-  table-agrees L addLearner q = rw (ap (λ (p : Places). p.tracked) q, ap (λ (p : Places). p.learner) q, append-nil, remove-none x w.conf.incoming (ap (λ (p : Places). p.incoming) q), insert-same x w.conf.learners l (ap (λ (p : Places). p.learner) q), remove-none x w.conf.staged (ap (λ (p : Places). p.staged) q))
-  table-agrees L removeNode q = rw (ap (λ (p : Places). p.tracked) q, ap (λ (p : Places). p.outgoing) q)
-  table-agrees O addNode q = rw (ap (λ (p : Places). p.tracked) q, append-nil)
-  table-agrees O addLearner q = rw (ap (λ (p : Places). p.tracked) q, ap (λ (p : Places). p.learner) q, ap (λ (p : Places). p.outgoing) q, append-nil, insert-remove x w.conf.staged g)
-  table-agrees O removeNode q = rw (ap (λ (p : Places). p.tracked) q, ap (λ (p : Places). p.outgoing) q, append-nil)
-  table-agrees IO addNode q = rw (ap (λ (p : Places). p.tracked) q, append-nil)
-  table-agrees IO addLearner q = rw (ap (λ (p : Places). p.tracked) q, ap (λ (p : Places). p.learner) q, ap (λ (p : Places). p.outgoing) q, append-nil, insert-remove x w.conf.staged g)
-  table-agrees IO removeNode q = rw (ap (λ (p : Places). p.tracked) q, ap (λ (p : Places). p.outgoing) q, append-nil)
-  table-agrees OS addNode q = rw (ap (λ (p : Places). p.tracked) q, append-nil)
-  table-agrees OS addLearner q = rw (ap (λ (p : Places). p.tracked) q, ap (λ (p : Places). p.learner) q, ap (λ (p : Places). p.outgoing) q, append-nil, insert-remove x w.conf.staged g)
-  table-agrees OS removeNode q = rw (ap (λ (p : Places). p.tracked) q, ap (λ (p : Places). p.outgoing) q, append-nil)
+  table_agrees none addNode q = rw (ap (λ (p : Places). p.tracked) q, remove_none x w.conf.learners (ap (λ (p : Places). p.learner) q), remove_none x w.conf.staged (ap (λ (p : Places). p.staged) q))
+  table_agrees none addLearner q = rw (ap (λ (p : Places). p.tracked) q, remove_none x w.conf.incoming (ap (λ (p : Places). p.incoming) q), remove_none x w.conf.staged (ap (λ (p : Places). p.staged) q))
+  table_agrees none removeNode q = rw (ap (λ (p : Places). p.tracked) q, append-nil, remove_none x w.conf.incoming (ap (λ (p : Places). p.incoming) q), remove_none x w.conf.learners (ap (λ (p : Places). p.learner) q), remove_none x w.conf.staged (ap (λ (p : Places). p.staged) q))
+  table_agrees idle addNode q = rw (ap (λ (p : Places). p.tracked) q, append-nil)
+  table_agrees idle addLearner q = rw (ap (λ (p : Places). p.tracked) q, ap (λ (p : Places). p.learner) q, ap (λ (p : Places). p.outgoing) q, append-nil, insert_remove x w.conf.learners l)
+  table_agrees idle removeNode q = rw (ap (λ (p : Places). p.tracked) q, ap (λ (p : Places). p.outgoing) q)
+  table_agrees I addNode q = rw (ap (λ (p : Places). p.tracked) q, append-nil)
+  table_agrees I addLearner q = rw (ap (λ (p : Places). p.tracked) q, ap (λ (p : Places). p.learner) q, ap (λ (p : Places). p.outgoing) q, append-nil, insert_remove x w.conf.learners l)
+  table_agrees I removeNode q = rw (ap (λ (p : Places). p.tracked) q, ap (λ (p : Places). p.outgoing) q)
+  table_agrees L addNode q = rw (ap (λ (p : Places). p.tracked) q, append-nil)
+  table_agrees L addLearner q = rw (ap (λ (p : Places). p.tracked) q, ap (λ (p : Places). p.learner) q, append-nil, remove_none x w.conf.incoming (ap (λ (p : Places). p.incoming) q), insert_same x w.conf.learners l (ap (λ (p : Places). p.learner) q), remove_none x w.conf.staged (ap (λ (p : Places). p.staged) q))
+  table_agrees L removeNode q = rw (ap (λ (p : Places). p.tracked) q, ap (λ (p : Places). p.outgoing) q)
+  table_agrees O addNode q = rw (ap (λ (p : Places). p.tracked) q, append-nil)
+  table_agrees O addLearner q = rw (ap (λ (p : Places). p.tracked) q, ap (λ (p : Places). p.learner) q, ap (λ (p : Places). p.outgoing) q, append-nil, insert_remove x w.conf.staged g)
+  table_agrees O removeNode q = rw (ap (λ (p : Places). p.tracked) q, ap (λ (p : Places). p.outgoing) q, append-nil)
+  table_agrees IO addNode q = rw (ap (λ (p : Places). p.tracked) q, append-nil)
+  table_agrees IO addLearner q = rw (ap (λ (p : Places). p.tracked) q, ap (λ (p : Places). p.learner) q, ap (λ (p : Places). p.outgoing) q, append-nil, insert_remove x w.conf.staged g)
+  table_agrees IO removeNode q = rw (ap (λ (p : Places). p.tracked) q, ap (λ (p : Places). p.outgoing) q, append-nil)
+  table_agrees OS addNode q = rw (ap (λ (p : Places). p.tracked) q, append-nil)
+  table_agrees OS addLearner q = rw (ap (λ (p : Places). p.tracked) q, ap (λ (p : Places). p.learner) q, ap (λ (p : Places). p.outgoing) q, append-nil, insert_remove x w.conf.staged g)
+  table_agrees OS removeNode q = rw (ap (λ (p : Places). p.tracked) q, ap (λ (p : Places). p.outgoing) q, append-nil)
 
 -- ** 16
 
-abbrev isAdds : Effect → Bool
-isAdds stays = false
-isAdds adds = true
-isAdds removes = false
+abbrev is_adds : Effect → Bool
+is_adds stays = false
+is_adds adds = true
+is_adds removes = false
 
 -- an Add is logged where an untracked id is to be tracked
-adds-where : (st : Standing) (k : Kind) → isAdds (table st k).1 ≡ not (places_of st).tracked && tracks k
+adds_where : (st : Standing) (k : Kind) → is_adds (table st k).1 ≡ not (places_of st).tracked && tracks k
 unfolding table
-adds-where none addNode = refl
-adds-where none addLearner = refl
-adds-where none removeNode = refl
-adds-where idle addNode = refl
-adds-where idle addLearner = refl
-adds-where idle removeNode = refl
-adds-where I addNode = refl
-adds-where I addLearner = refl
-adds-where I removeNode = refl
-adds-where L addNode = refl
-adds-where L addLearner = refl
-adds-where L removeNode = refl
-adds-where O addNode = refl
-adds-where O addLearner = refl
-adds-where O removeNode = refl
-adds-where IO addNode = refl
-adds-where IO addLearner = refl
-adds-where IO removeNode = refl
-adds-where OS addNode = refl
-adds-where OS addLearner = refl
-adds-where OS removeNode = refl
+adds_where none addNode = refl
+adds_where none addLearner = refl
+adds_where none removeNode = refl
+adds_where idle addNode = refl
+adds_where idle addLearner = refl
+adds_where idle removeNode = refl
+adds_where I addNode = refl
+adds_where I addLearner = refl
+adds_where I removeNode = refl
+adds_where L addNode = refl
+adds_where L addLearner = refl
+adds_where L removeNode = refl
+adds_where O addNode = refl
+adds_where O addLearner = refl
+adds_where O removeNode = refl
+adds_where IO addNode = refl
+adds_where IO addLearner = refl
+adds_where IO removeNode = refl
+adds_where OS addNode = refl
+adds_where OS addLearner = refl
+adds_where OS removeNode = refl
 
 logged-is : (e : Effect) (base : List ℕ) (x : ℕ) (c : Conf) (log : List Entry)
-    → logged e base x c log ≡ cond (isAdds e && leb 64 (length (pending log base))) (full x) (done (work c (log ++ entries e x)))
+    → logged e base x c log ≡ cond (is_adds e && leb 64 (length (pending log base))) (full x) (done (work c (log ++ entries e x)))
 logged-is stays base x c log = rw append-nil
 logged-is adds base x c log = refl
 logged-is removes base x c log = refl
@@ -97,24 +97,24 @@ logged-is removes base x c log = refl
 -- ** One change
 
 -- by the table it is what the Rust does
-pub change-is : (r : Progress) (ps : List Peer) (up : ascending (ids ps) ≡ true) (c : Change) (w : Work) → Fine r ps up w → change (ids ps) c w ≡ rustChange (ids ps) c w
-unfolding change rustChange
+pub change-is : (r : Progress) (ps : List Peer) (up : ascending (ids ps) ≡ true) (c : Change) (w : Work) → Fine r ps up w → change (ids ps) c w ≡ rust_change (ids ps) c w
+unfolding change rust_change
 change-is r ps up c w f = go (eqb c.id 0)
   where
     st : Standing
     st = here r ps up c w f
 
     t : Bool
-    t = pendingTracked (ids ps) w.log c.id
+    t = pending_tracked (ids ps) w.log c.id
 
-    q : placesIn t w.conf c.id ≡ places_of st
+    q : places_in t w.conf c.id ≡ places_of st
     q = rw (tracked-now r ps up w c.id) (f.sound.stands c.id)
 
     agrees : by_kind c.kind t c.id w ≡ work (place c.id (table st c.kind).0 w.conf) (w.log ++ entries (table st c.kind).1 c.id)
-    agrees = table-agrees c.id t w f.sound.incoming↑ f.sound.learners↑ f.sound.staged↑ st c.kind q
+    agrees = table_agrees c.id t w f.sound.incoming↑ f.sound.learners↑ f.sound.staged↑ st c.kind q
 
-    room : isAdds (table st c.kind).1 ≡ not t && tracks c.kind
-    room = adds-where st c.kind ∙ ap (λ (p : Places). not p.tracked && tracks c.kind) (sym q)
+    room : is_adds (table st c.kind).1 ≡ not t && tracks c.kind
+    room = adds_where st c.kind ∙ ap (λ (p : Places). not p.tracked && tracks c.kind) (sym q)
 
     go : (b : Bool)
         → cond b (done w) (logged (table st c.kind).1 (ids ps) c.id (place c.id (table st c.kind).0 w.conf) w.log)
@@ -126,18 +126,18 @@ change-is r ps up c w f = go (eqb c.id 0)
         ∙ ap (λ (v : Work). cond (not t && tracks c.kind && leb 64 (length (pending w.log (ids ps)))) (full c.id) (done v)) (sym agrees)
 
 -- what a change that is not skipped and not refused leaves is what the Rust's operation of its kind leaves
-pub change-agrees : (r : Progress) (ps : List Peer) (up : ascending (ids ps) ≡ true) (c : Change) (w v : Work) → Fine r ps up w → eqb c.id 0 ≡ false
-    → change (ids ps) c w ≡ done v → v ≡ by_kind c.kind (pendingTracked (ids ps) w.log c.id) c.id w
+pub change_agrees : (r : Progress) (ps : List Peer) (up : ascending (ids ps) ≡ true) (c : Change) (w v : Work) → Fine r ps up w → eqb c.id 0 ≡ false
+    → change (ids ps) c w ≡ done v → v ≡ by_kind c.kind (pending_tracked (ids ps) w.log c.id) c.id w
 unfolding change
-change-agrees r ps up c w v f z h = go (eqb c.id 0) z h
+change_agrees r ps up c w v f z h = go (eqb c.id 0) z h
   where
     st : Standing
     st = here r ps up c w f
 
     go : (b : Bool) → b ≡ false → cond b (done w) (logged (table st c.kind).1 (ids ps) c.id (place c.id (table st c.kind).0 w.conf) w.log) ≡ done v
-        → v ≡ by_kind c.kind (pendingTracked (ids ps) w.log c.id) c.id w
+        → v ≡ by_kind c.kind (pending_tracked (ids ps) w.log c.id) c.id w
     go true e h = absurd (true≢false e)
     go false e h =
         sym (logged-done (table st c.kind).1 (ids ps) c.id (place c.id (table st c.kind).0 w.conf) w.log v h).work
-        ∙ sym (table-agrees c.id (pendingTracked (ids ps) w.log c.id) w f.sound.incoming↑ f.sound.learners↑ f.sound.staged↑ st c.kind
+        ∙ sym (table_agrees c.id (pending_tracked (ids ps) w.log c.id) w f.sound.incoming↑ f.sound.learners↑ f.sound.staged↑ st c.kind
         (rw (tracked-now r ps up w c.id) (f.sound.stands c.id)))

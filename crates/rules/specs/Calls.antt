@@ -1,11 +1,11 @@
 -- `simple`, `enter_joint` and `leave_joint`: document 01, "What one change does to one id", in the order of "Refusal numbers": "1, 2, 3;
 -- then 4, 5 or 6; the check; 15; the changes, stopping at the first 16; 17; 18; the check again." Assumes nothing.
 use Rattle.std.specs.Prelude.{ℕ, ◌+◌, Bool, false, ◌||◌, not, cond, List, [], ◌∷◌, length, eqb, ltb, leb}
-use Rattle.rules.specs.Ids.{insertAll, is_empty, minus}
+use Rattle.rules.specs.Ids.{insert_all, is_empty, minus}
 use Rattle.rules.specs.State.{Change, Conf, Entry, Kind, State, addLearner, addNode, formed, ids, remove, removeNode}
 use Rattle.rules.specs.Answers.{Answer, Verdict, ◌⇒◌, ◌▸◌, accepted, each, refuse, refused}
-use Rattle.rules.specs.Check.{check, isTracked, joint}
-use Rattle.rules.specs.Changes.{Done, Work, changes, done, full, pendingTracked}
+use Rattle.rules.specs.Check.{check, is_tracked, joint}
+use Rattle.rules.specs.Changes.{Done, Work, changes, done, full, pending_tracked}
 
 -- ** 1, 2, 3
 
@@ -41,18 +41,18 @@ abbrev pub difference : List ℕ → List ℕ → ℕ
 difference xs ys = length (minus xs ys) + length (minus ys xs)
 
 -- "`simple`: the list, then the net difference of incoming before and after."
-unfoldable pub simpleOf : State → List Change → Answer
-simpleOf s cs =
+unfoldable pub simple_of : State → List Change → Answer
+simple_of s cs =
     refuse (joint s.conf) 6 0
-    ▸ check (isTracked s) s.conf
+    ▸ check (is_tracked s) s.conf
     ⇒ afterwards (changes (ids s.peers) cs (start s.conf)) (λ w.
     refuse (is_empty w.conf.incoming) 17 0
     ▸ refuse (leb 2 (difference w.conf.incoming s.conf.incoming)) 18 0
-    ▸ check (pendingTracked (ids s.peers) w.log) w.conf
+    ▸ check (pending_tracked (ids s.peers) w.log) w.conf
     ⇒ accepted w.conf w.log)
 
 unfoldable pub simple : State → List ℕ → List ℕ → Answer
-simple s xs ks = refuse (not (formed s)) 1 0 ▸ readable xs ks ⇒ simpleOf s (list_of xs ks)
+simple s xs ks = refuse (not (formed s)) 1 0 ▸ readable xs ks ⇒ simple_of s (list_of xs ks)
 
 -- ** enter_joint
 
@@ -63,32 +63,32 @@ entering c =
       outgoing = c.incoming;
       learners = c.learners;
       staged = c.staged;
-      autoLeave = c.autoLeave;
+      auto_leave = c.auto_leave;
     }
 
-abbrev pub withAuto : Bool → Conf → Conf
-withAuto a c =
+abbrev pub with_auto : Bool → Conf → Conf
+with_auto a c =
     record {
       incoming = c.incoming;
       outgoing = c.outgoing;
       learners = c.learners;
       staged = c.staged;
-      autoLeave = a;
+      auto_leave = a;
     }
 
 -- "`enter_joint`: outgoing becomes a copy of incoming, then the list, then `auto_leave` as asked."
-unfoldable pub enterOf : State → Bool → List Change → Answer
-enterOf s auto cs =
+unfoldable pub enter_of : State → Bool → List Change → Answer
+enter_of s auto cs =
     refuse (joint s.conf) 4 0
-    ▸ check (isTracked s) s.conf
+    ▸ check (is_tracked s) s.conf
     ▸ refuse (is_empty s.conf.incoming) 15 0
     ⇒ afterwards (changes (ids s.peers) cs (start (entering s.conf))) (λ w.
     refuse (is_empty w.conf.incoming) 17 0
-    ▸ check (pendingTracked (ids s.peers) w.log) (withAuto auto w.conf)
-    ⇒ accepted (withAuto auto w.conf) w.log)
+    ▸ check (pending_tracked (ids s.peers) w.log) (with_auto auto w.conf)
+    ⇒ accepted (with_auto auto w.conf) w.log)
 
-unfoldable pub enterJoint : State → Bool → List ℕ → List ℕ → Answer
-enterJoint s auto xs ks = refuse (not (formed s)) 1 0 ▸ readable xs ks ⇒ enterOf s auto (list_of xs ks)
+unfoldable pub enter_joint : State → Bool → List ℕ → List ℕ → Answer
+enter_joint s auto xs ks = refuse (not (formed s)) 1 0 ▸ readable xs ks ⇒ enter_of s auto (list_of xs ks)
 
 -- ** leave_joint
 
@@ -98,9 +98,9 @@ leaving c =
     record {
       incoming = c.incoming;
       outgoing = [];
-      learners = insertAll c.staged c.learners;
+      learners = insert_all c.staged c.learners;
       staged = [];
-      autoLeave = false;
+      auto_leave = false;
     }
 
 -- "each outgoing id now neither incoming nor learner is logged Remove, ascending"
@@ -111,12 +111,12 @@ unfoldable pub removals : List ℕ → List Entry
 removals [] = []
 removals (x ∷ xs) = remove x ∷ removals xs
 
-unfoldable pub leaveOf : State → Answer
-leaveOf s =
+unfoldable pub leave_of : State → Answer
+leave_of s =
     refuse (not (joint s.conf)) 5 0
-    ▸ check (isTracked s) s.conf
-    ▸ check (pendingTracked (ids s.peers) (removals (gone s.conf))) (leaving s.conf)
+    ▸ check (is_tracked s) s.conf
+    ▸ check (pending_tracked (ids s.peers) (removals (gone s.conf))) (leaving s.conf)
     ⇒ accepted (leaving s.conf) (removals (gone s.conf))
 
-unfoldable pub leaveJoint : State → Answer
-leaveJoint s = refuse (not (formed s)) 1 0 ⇒ leaveOf s
+unfoldable pub leave_joint : State → Answer
+leave_joint s = refuse (not (formed s)) 1 0 ⇒ leave_of s

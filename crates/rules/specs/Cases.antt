@@ -27,14 +27,14 @@ sj = of (olds (1 ∷ 2 ∷ [])) (conf (1 ∷ []) (1 ∷ 2 ∷ []) [] [])
 
 -- joint with the flag, (1 2)&&(1); joint with two that go, (1)&&(1 2 3)
 abbrev pub sf : State
-sf = of (olds (1 ∷ 2 ∷ [])) (record { incoming = 1 ∷ 2 ∷ []; outgoing = 1 ∷ []; learners = []; staged = []; autoLeave = true })
+sf = of (olds (1 ∷ 2 ∷ [])) (record { incoming = 1 ∷ 2 ∷ []; outgoing = 1 ∷ []; learners = []; staged = []; auto_leave = true })
 
 abbrev pub sg : State
 sg = of (olds (1 ∷ 2 ∷ 3 ∷ [])) (conf (1 ∷ []) (1 ∷ 2 ∷ 3 ∷ []) [] [])
 
 -- the same lists, with the flag
 abbrev pub flagged : List ℕ → List ℕ → List ℕ → List ℕ → ConfState
-flagged v l o g = record { voters = v; learners = l; votersOutgoing = o; learnersNext = g; autoLeave = true }
+flagged v l o g = record { voters = v; learners = l; voters_outgoing = o; learners_next = g; auto_leave = true }
 
 -- malformed: a set that does not ascend, one with an id twice, one of 65; the tracked list likewise
 abbrev pub down : Conf
@@ -67,4 +67,4 @@ s16 = of (olds (up_to 64 [])) (conf (1 ∷ []) [] [] [])
 
 -- auto_leave while not joint
 abbrev pub s17 : State
-s17 = of (old 1 ∷ []) (record { incoming = 1 ∷ []; outgoing = []; learners = []; staged = []; autoLeave = true })
+s17 = of (old 1 ∷ []) (record { incoming = 1 ∷ []; outgoing = []; learners = []; staged = []; auto_leave = true })

@@ -1,24 +1,24 @@
 -- The pending log, one change, and a list of them: document 01, "What one change does to one id". Assumes nothing.
 use Rattle.std.specs.Prelude.{ℕ, Bool, ◌&&◌, ◌||◌, not, cond, List, [], ◌∷◌, ◌++◌, length, eqb, leb}
-use Rattle.rules.specs.Ids.{insertId, memb, removeId}
+use Rattle.rules.specs.Ids.{insert_id, memb, remove_id}
 use Rattle.rules.specs.State.{Change, Conf, Entry, add, remove}
-use Rattle.rules.specs.Table.{Effect, Standing, adds, place, placesIn, removes, standingIn, stays, table}
+use Rattle.rules.specs.Table.{Effect, Standing, adds, place, places_in, removes, standing_in, stays, table}
 
 -- the last entry for x decides; b where there is none
-unfoldable pub lastSays : ℕ → List Entry → Bool → Bool
-lastSays x [] b = b
-lastSays x (add y ∷ es) b = lastSays x es (eqb y x || b)
-lastSays x (remove y ∷ es) b = lastSays x es (not (eqb y x) && b)
+unfoldable pub last_says : ℕ → List Entry → Bool → Bool
+last_says x [] b = b
+last_says x (add y ∷ es) b = last_says x es (eqb y x || b)
+last_says x (remove y ∷ es) b = last_says x es (not (eqb y x) && b)
 
 -- "Tracked is asked of the base ids with the pending log over them, the last entry for the id deciding."
-abbrev pub pendingTracked : List ℕ → List Entry → ℕ → Bool
-pendingTracked base log x = lastSays x log (memb x base)
+abbrev pub pending_tracked : List ℕ → List Entry → ℕ → Bool
+pending_tracked base log x = last_says x log (memb x base)
 
 -- the base ids with the log over them
 unfoldable pub pending : List Entry → List ℕ → List ℕ
 pending [] base = base
-pending (add y ∷ es) base = pending es (insertId y base)
-pending (remove y ∷ es) base = pending es (removeId y base)
+pending (add y ∷ es) base = pending es (insert_id y base)
+pending (remove y ∷ es) base = pending es (remove_id y base)
 
 -- the configuration and the log, as far as a list is carried out
 pub record Work : Type 0 where
@@ -38,14 +38,14 @@ logged adds base x c log = cond (leb 64 (length (pending log base))) (full x) (d
 logged removes base x c log = done (record { conf = c; log = log ++ (remove x ∷ []) })
 
 -- where x stands at its turn
-abbrev pub standingNow : List ℕ → Work → ℕ → Standing
-standingNow base w x = standingIn (placesIn (pendingTracked base w.log x) w.conf x)
+abbrev pub standing_now : List ℕ → Work → ℕ → Standing
+standing_now base w x = standing_in (places_in (pending_tracked base w.log x) w.conf x)
 
 -- one change, by the table. "A change with id 0 is skipped"
 unfoldable pub change : List ℕ → Change → Work → Done
 change base c w =
     cond (eqb c.id 0) (done w)
-    (let to : Standing × Effect = table (standingNow base w c.id) c.kind in
+    (let to : Standing × Effect = table (standing_now base w c.id) c.kind in
     logged to.1 base c.id (place c.id to.0 w.conf) w.log)
 
 abbrev pub and_then : Done → (Work → Done) → Done

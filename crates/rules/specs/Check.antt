@@ -1,6 +1,6 @@
 -- The check, and in order: document 01, under the table of refusal numbers and in "The state and its numbers". Assumes nothing.
 use Rattle.std.specs.Prelude.{ℕ, Bool, ◌&&◌, not}
-use Rattle.rules.specs.Ids.{apart, insertAll, is_empty, memb, sameIds}
+use Rattle.rules.specs.Ids.{apart, insert_all, is_empty, memb, same_ids}
 use Rattle.rules.specs.State.{Conf, State, formed, ids, members}
 use Rattle.rules.specs.Answers.{Verdict, ◌▸◌, each, passes, refuse}
 
@@ -12,26 +12,26 @@ joint c = not (is_empty c.outgoing)
 -- one 11, 12; if not joint, 13, then 14." Whether an id is tracked is asked of t.
 unfoldable pub check : (ℕ → Bool) → Conf → Verdict
 check t c =
-    each (λ x. refuse (not (t x)) 7 x) (insertAll c.incoming c.outgoing)
+    each (λ x. refuse (not (t x)) 7 x) (insert_all c.incoming c.outgoing)
     ▸ each (λ x. refuse (not (t x)) 8 x ▸ refuse (memb x c.outgoing) 9 x ▸ refuse (memb x c.incoming) 10 x) c.learners
     ▸ each (λ x. refuse (not (t x)) 11 x ▸ refuse (not (memb x c.outgoing)) 12 x) c.staged
     ▸ refuse (not (joint c) && not (is_empty c.staged)) 13 0
-    ▸ refuse (not (joint c) && c.autoLeave) 14 0
+    ▸ refuse (not (joint c) && c.auto_leave) 14 0
 
-abbrev pub isTracked : State → ℕ → Bool
-isTracked s x = memb x (ids s.peers)
+abbrev pub is_tracked : State → ℕ → Bool
+is_tracked s x = memb x (ids s.peers)
 
 -- the check, asked of any state: 1 first
-unfoldable pub checkState : State → Verdict
-checkState s = refuse (not (formed s)) 1 0 ▸ check (isTracked s) s.conf
+unfoldable pub check_state : State → Verdict
+check_state s = refuse (not (formed s)) 1 0 ▸ check (is_tracked s) s.conf
 
 -- "In order (an added yes or no): well formed, passes the check below, no id 0 anywhere, and tracked ids exactly those in at least
 -- one of the four sets." It "shall also ask that no staged id is an incoming voter; the ported check stays as the Rust has it" (document
 -- 02, h).
-unfoldable pub inOrder : State → Bool
-inOrder s =
+unfoldable pub in_order : State → Bool
+in_order s =
     formed s
-    && passes (check (isTracked s) s.conf)
+    && passes (check (is_tracked s) s.conf)
     && (not (memb 0 (ids s.peers)) && not (memb 0 (members s.conf)))
-    && sameIds (ids s.peers) (members s.conf)
+    && same_ids (ids s.peers) (members s.conf)
     && apart s.conf.staged s.conf.incoming

@@ -2,7 +2,7 @@
 -- nothing.
 use Rattle.std.specs.Prelude.{ℕ, ◌≡◌, refl, true, false, List, [], ◌∷◌}
 use Rattle.rules.specs.Ids.{memb}
-use Rattle.rules.specs.State.{Conf, noConf}
+use Rattle.rules.specs.State.{Conf, no_conf}
 use Rattle.rules.specs.Rows.{conf}
 use Rattle.rules.specs.Quorum.{Group, count, everyone, quorum}
 
@@ -37,7 +37,7 @@ pub quorums :
     × (quorum (only (2 ∷ 3 ∷ 4 ∷ [])) replaced ≡ false)
     × (quorum (only (1 ∷ 2 ∷ 4 ∷ [])) replaced ≡ true)
     -- without a voter everyone is a quorum
-    × (quorum everyone noConf ≡ false)
+    × (quorum everyone no_conf ≡ false)
     × (quorum everyone (conf [] (1 ∷ []) [] []) ≡ false)
 unfolding quorum count memb
 quorums = (refl, refl, refl, refl, refl, refl, refl, refl, refl, refl, refl, refl, refl)

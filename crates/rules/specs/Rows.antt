@@ -1,18 +1,18 @@
 -- The form of the checked examples: a state, a call, and what document 01 says of it. Assumes nothing.
 use Rattle.std.specs.Prelude.{ℕ, false, List, [], ◌∷◌}
-use Rattle.progress.specs.Record.{freshRecord}
+use Rattle.progress.specs.Record.{fresh_record}
 use Rattle.rules.specs.State.{Change, Conf, ConfState, Entry, Kind, Peer, State, addLearner, addNode, removeNode}
 use Rattle.rules.specs.Answers.{Verdict, Answer, accepted, refused, Outcome}
-use Rattle.rules.specs.Calls.{simple, enterJoint, leaveJoint}
-use Rattle.rules.specs.Restore.{Step, enterStep, leaveStep, simpleStep}
-use Rattle.rules.specs.Sequences.{Call, simpleCall, enterCall, leaveCall, restoreCall, stepByStepCall, perform}
+use Rattle.rules.specs.Calls.{simple, enter_joint, leave_joint}
+use Rattle.rules.specs.Restore.{Step, enter_step, leave_step, simple_step}
+use Rattle.rules.specs.Sequences.{Call, simple_call, enter_call, leave_call, restore_call, step_by_step_call, perform}
 
 -- a box with a record from before the call, and one with a record that the call makes (its `next_idx` is 77)
 abbrev pub old : ℕ → Peer
-old x = record { id = x; progress = freshRecord 10 256 }
+old x = record { id = x; progress = fresh_record 10 256 }
 
 abbrev pub new : ℕ → Peer
-new x = record { id = x; progress = freshRecord 77 256 }
+new x = record { id = x; progress = fresh_record 77 256 }
 
 abbrev pub olds : List ℕ → List Peer
 olds [] = []
@@ -20,25 +20,25 @@ olds (x ∷ xs) = old x ∷ olds xs
 
 -- incoming, outgoing, learners, staged
 abbrev pub conf : List ℕ → List ℕ → List ℕ → List ℕ → Conf
-conf i o l g = record { incoming = i; outgoing = o; learners = l; staged = g; autoLeave = false }
+conf i o l g = record { incoming = i; outgoing = o; learners = l; staged = g; auto_leave = false }
 
 abbrev pub of : List Peer → Conf → State
-of ps c = record { conf = c; peers = ps; maxInflight = 256 }
+of ps c = record { conf = c; peers = ps; max_inflight = 256 }
 
 -- voters, learners, outgoing voters, staged
 abbrev pub lists : List ℕ → List ℕ → List ℕ → List ℕ → ConfState
-lists v l o g = record { voters = v; learners = l; votersOutgoing = o; learnersNext = g; autoLeave = false }
+lists v l o g = record { voters = v; learners = l; voters_outgoing = o; learners_next = g; auto_leave = false }
 
 -- ** A restore's steps, taken one by one
 
 -- the steps before the last, and the last; a leave where there is none
-abbrev pub beforeLast : List Step → List Step
-beforeLast [] = []
-beforeLast (p ∷ []) = []
-beforeLast (p ∷ q ∷ ps) = p ∷ beforeLast (q ∷ ps)
+abbrev pub before_last : List Step → List Step
+before_last [] = []
+before_last (p ∷ []) = []
+before_last (p ∷ q ∷ ps) = p ∷ before_last (q ∷ ps)
 
 abbrev pub last_of : List Step → Step
-last_of [] = leaveStep
+last_of [] = leave_step
 last_of (p ∷ []) = p
 last_of (p ∷ q ∷ ps) = last_of (q ∷ ps)
 
@@ -51,15 +51,15 @@ number_of addNode = 0
 number_of removeNode = 1
 number_of addLearner = 2
 
-abbrev kindsIn : List Change → List ℕ
-kindsIn [] = []
-kindsIn (c ∷ cs) = number_of c.kind ∷ kindsIn cs
+abbrev kinds_in : List Change → List ℕ
+kinds_in [] = []
+kinds_in (c ∷ cs) = number_of c.kind ∷ kinds_in cs
 
 -- the call that a step is
 abbrev pub call_of : Step → ℕ → Call
-call_of (simpleStep cs) n = simpleCall (ids_in cs) (kindsIn cs) n
-call_of (enterStep auto cs) n = enterCall auto (ids_in cs) (kindsIn cs) n
-call_of leaveStep n = leaveCall n
+call_of (simple_step cs) n = simple_call (ids_in cs) (kinds_in cs) n
+call_of (enter_step auto cs) n = enter_call auto (ids_in cs) (kinds_in cs) n
+call_of leave_step n = leave_call n
 
 -- ** The table
 
@@ -74,17 +74,17 @@ pub record Row : Type 0 where
 abbrev pub row : ℕ → State → Call → Verdict → State → List Entry → Row
 row n s c v t l = record { example = n; before = s; call = c; verdict = v; after = t; log = l }
 
-abbrev logIn : Answer → List Entry
-logIn (accepted c log) = log
-logIn (refused n x) = []
+abbrev log_in : Answer → List Entry
+log_in (accepted c log) = log
+log_in (refused n x) = []
 
 -- the log that a call gives
-abbrev logOf : State → Call → List Entry
-logOf s (simpleCall xs ks n) = logIn (simple s xs ks)
-logOf s (enterCall a xs ks n) = logIn (enterJoint s a xs ks)
-logOf s (leaveCall n) = logIn (leaveJoint s)
-logOf s (restoreCall cs n) = []
-logOf s (stepByStepCall cs n) = []
+abbrev log_of : State → Call → List Entry
+log_of s (simple_call xs ks n) = log_in (simple s xs ks)
+log_of s (enter_call a xs ks n) = log_in (enter_joint s a xs ks)
+log_of s (leave_call n) = log_in (leave_joint s)
+log_of s (restore_call cs n) = []
+log_of s (step_by_step_call cs n) = []
 
 pub record Seen : Type 0 where
   pub outcome : Outcome
@@ -97,4 +97,4 @@ told (r ∷ rs) = record { outcome = record { verdict = r.verdict; state = r.aft
 
 abbrev pub asked : List Row → List Seen
 asked [] = []
-asked (r ∷ rs) = record { outcome = perform r.before r.call; log = logOf r.before r.call } ∷ asked rs
+asked (r ∷ rs) = record { outcome = perform r.before r.call; log = log_of r.before r.call } ∷ asked rs

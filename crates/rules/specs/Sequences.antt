@@ -3,28 +3,28 @@
 use Rattle.std.specs.Prelude.{ℕ, Bool, List, [], ◌∷◌, ◌++◌}
 use Rattle.rules.specs.State.{ConfState, State}
 use Rattle.rules.specs.Answers.{Outcome, Verdict, fault, ok}
-use Rattle.rules.specs.Calls.{enterJoint, leaveJoint, list_of, simple}
-use Rattle.rules.specs.Restore.{Step, applyAnswer, attempt, enterStep, leaveStep, restorable, restore, restoreStepByStep, restoreSteps, simpleStep}
+use Rattle.rules.specs.Calls.{enter_joint, leave_joint, list_of, simple}
+use Rattle.rules.specs.Restore.{Step, apply_answer, attempt, enter_step, leave_step, restorable, restore, restore_step_by_step, restore_steps, simple_step}
 
 -- a call with its arguments; the last number is `next_idx`
 pub data Call : Type 0 where
-  simpleCall : List ℕ → List ℕ → ℕ → Call
-  enterCall : Bool → List ℕ → List ℕ → ℕ → Call
-  leaveCall : ℕ → Call
-  restoreCall : ConfState → ℕ → Call
-  stepByStepCall : ConfState → ℕ → Call
+  simple_call : List ℕ → List ℕ → ℕ → Call
+  enter_call : Bool → List ℕ → List ℕ → ℕ → Call
+  leave_call : ℕ → Call
+  restore_call : ConfState → ℕ → Call
+  step_by_step_call : ConfState → ℕ → Call
 
 -- "apply each accepted answer at once to the state it was asked of"
 unfoldable pub perform : State → Call → Outcome
-perform s (simpleCall xs ks n) = applyAnswer s n (simple s xs ks)
-perform s (enterCall auto xs ks n) = applyAnswer s n (enterJoint s auto xs ks)
-perform s (leaveCall n) = applyAnswer s n (leaveJoint s)
-perform s (restoreCall cs n) = restore s cs n
-perform s (stepByStepCall cs n) = restoreStepByStep s cs n
+perform s (simple_call xs ks n) = apply_answer s n (simple s xs ks)
+perform s (enter_call auto xs ks n) = apply_answer s n (enter_joint s auto xs ks)
+perform s (leave_call n) = apply_answer s n (leave_joint s)
+perform s (restore_call cs n) = restore s cs n
+perform s (step_by_step_call cs n) = restore_step_by_step s cs n
 
-unfoldable pub afterCalls : State → List Call → State
-afterCalls s [] = s
-afterCalls s (c ∷ cs) = afterCalls (perform s c).state cs
+unfoldable pub after_calls : State → List Call → State
+after_calls s [] = s
+after_calls s (c ∷ cs) = after_calls (perform s c).state cs
 
 -- ** What was accepted
 
@@ -32,9 +32,9 @@ pub record Deed : Type 0 where
   pub step : Step
   pub next : ℕ
 
-abbrev pub ifOk : Verdict → List Deed → List Deed
-ifOk ok ds = ds
-ifOk (fault n x) ds = []
+abbrev pub if_ok : Verdict → List Deed → List Deed
+if_ok ok ds = ds
+if_ok (fault n x) ds = []
 
 -- these steps, all of them
 unfoldable pub in_turn : ℕ → List Step → List Deed
@@ -42,24 +42,24 @@ in_turn n [] = []
 in_turn n (p ∷ ps) = record { step = p; next = n } ∷ in_turn n ps
 
 -- the steps of a run up to the refused one
-unfoldable pub deedsOfRun : ℕ → State → List Step → List Deed
-deedsOfRun n s [] = []
-deedsOfRun n s (p ∷ ps) = ifOk (attempt n s p).verdict (record { step = p; next = n } ∷ deedsOfRun n (attempt n s p).state ps)
+unfoldable pub deeds_of_run : ℕ → State → List Step → List Deed
+deeds_of_run n s [] = []
+deeds_of_run n s (p ∷ ps) = if_ok (attempt n s p).verdict (record { step = p; next = n } ∷ deeds_of_run n (attempt n s p).state ps)
 
 -- "Each accepted step of a restore counts as a call." Of one that is asked for step by step these are the steps up to the refused one; document
 -- 02, g): "in demand 3 a refused whole restore counts no steps".
-unfoldable pub deedsOf : State → Call → List Deed
-deedsOf s (simpleCall xs ks n) = ifOk (perform s (simpleCall xs ks n)).verdict (record { step = simpleStep (list_of xs ks); next = n } ∷ [])
-deedsOf s (enterCall auto xs ks n) = ifOk (perform s (enterCall auto xs ks n)).verdict (record { step = enterStep auto (list_of xs ks); next = n } ∷ [])
-deedsOf s (leaveCall n) = ifOk (perform s (leaveCall n)).verdict (record { step = leaveStep; next = n } ∷ [])
-deedsOf s (restoreCall cs n) = ifOk (perform s (restoreCall cs n)).verdict (in_turn n (restoreSteps cs))
-deedsOf s (stepByStepCall cs n) = ifOk (restorable s cs) (deedsOfRun n s (restoreSteps cs))
+unfoldable pub deeds_of : State → Call → List Deed
+deeds_of s (simple_call xs ks n) = if_ok (perform s (simple_call xs ks n)).verdict (record { step = simple_step (list_of xs ks); next = n } ∷ [])
+deeds_of s (enter_call auto xs ks n) = if_ok (perform s (enter_call auto xs ks n)).verdict (record { step = enter_step auto (list_of xs ks); next = n } ∷ [])
+deeds_of s (leave_call n) = if_ok (perform s (leave_call n)).verdict (record { step = leave_step; next = n } ∷ [])
+deeds_of s (restore_call cs n) = if_ok (perform s (restore_call cs n)).verdict (in_turn n (restore_steps cs))
+deeds_of s (step_by_step_call cs n) = if_ok (restorable s cs) (deeds_of_run n s (restore_steps cs))
 
 unfoldable pub deeds : State → List Call → List Deed
 deeds s [] = []
-deeds s (c ∷ cs) = deedsOf s c ++ deeds (perform s c).state cs
+deeds s (c ∷ cs) = deeds_of s c ++ deeds (perform s c).state cs
 
 -- the state that accepted steps lead to, each asked of the one that those before it left
-unfoldable pub afterDeeds : State → List Deed → State
-afterDeeds s [] = s
-afterDeeds s (d ∷ ds) = afterDeeds (attempt d.next s d.step).state ds
+unfoldable pub after_deeds : State → List Deed → State
+after_deeds s [] = s
+after_deeds s (d ∷ ds) = after_deeds (attempt d.next s d.step).state ds

@@ -1,7 +1,7 @@
 -- The state and its numbers: document 01, the section of that name. Assumes nothing.
 use Rattle.std.specs.Prelude.{ℕ, Bool, false, ◌&&◌, List, [], ◌∷◌, length, leb}
 use Rattle.progress.specs.declared.Progress.{Progress}
-use Rattle.rules.specs.Ids.{ascending, insertAll}
+use Rattle.rules.specs.Ids.{ascending, insert_all}
 
 -- "Four id sets: incoming, outgoing, learners, staged (`learners_next`); a flag `auto_leave`"
 pub record Conf : Type 0 where
@@ -9,7 +9,7 @@ pub record Conf : Type 0 where
   pub outgoing : List ℕ
   pub learners : List ℕ
   pub staged : List ℕ
-  pub autoLeave : Bool
+  pub auto_leave : Bool
 
 -- "tracked ids, each with a record"
 pub record Peer : Type 0 where
@@ -25,24 +25,24 @@ ids (p ∷ ps) = p.id ∷ ids ps
 pub record State : Type 0 where
   pub conf : Conf
   pub peers : List Peer
-  pub maxInflight : ℕ
+  pub max_inflight : ℕ
 
 -- "Each set and the tracked list hold at most 64 ids, strictly ascending"
-abbrev pub setFormed : List ℕ → Bool
-setFormed xs = ascending xs && leb (length xs) 64
+abbrev pub set_formed : List ℕ → Bool
+set_formed xs = ascending xs && leb (length xs) 64
 
-unfoldable pub confFormed : Conf → Bool
-confFormed c = setFormed c.incoming && setFormed c.outgoing && setFormed c.learners && setFormed c.staged
+unfoldable pub conf_formed : Conf → Bool
+conf_formed c = set_formed c.incoming && set_formed c.outgoing && set_formed c.learners && set_formed c.staged
 
 unfoldable pub formed : State → Bool
-formed s = confFormed s.conf && setFormed (ids s.peers)
+formed s = conf_formed s.conf && set_formed (ids s.peers)
 
 -- "Fresh: nothing in any set, nothing tracked, the flag false, `max_inflight` as given."
-abbrev pub noConf : Conf
-noConf = record { incoming = []; outgoing = []; learners = []; staged = []; autoLeave = false }
+abbrev pub no_conf : Conf
+no_conf = record { incoming = []; outgoing = []; learners = []; staged = []; auto_leave = false }
 
 abbrev pub fresh : ℕ → State
-fresh m = record { conf = noConf; peers = []; maxInflight = m }
+fresh m = record { conf = no_conf; peers = []; max_inflight = m }
 
 -- "A change list has at most 256 entries, given as ids and kinds of equal length: 0 AddNode, 1 RemoveNode, 2 AddLearnerNode."
 pub data Kind : Type 0 where
@@ -56,17 +56,17 @@ pub record Change : Type 0 where
 pub data Entry : Type 0 where
   add remove : ℕ → Entry
 
-unfoldable pub logFormed : List Entry → Bool
-logFormed log = leb (length log) 256
+unfoldable pub log_formed : List Entry → Bool
+log_formed log = leb (length log) 256
 
 -- "A `ConfState` is four id lists of at most 64 entries each, in any order, repeats and zeros allowed, and the flag."
 pub record ConfState : Type 0 where
   pub voters : List ℕ
   pub learners : List ℕ
-  pub votersOutgoing : List ℕ
-  pub learnersNext : List ℕ
-  pub autoLeave : Bool
+  pub voters_outgoing : List ℕ
+  pub learners_next : List ℕ
+  pub auto_leave : Bool
 
 -- the ids "in at least one of the four sets", ascending
 abbrev pub members : Conf → List ℕ
-members c = insertAll c.incoming (insertAll c.outgoing (insertAll c.learners c.staged))
+members c = insert_all c.incoming (insert_all c.outgoing (insert_all c.learners c.staged))

@@ -1,6 +1,6 @@
 -- The table of standings: document 01, "What one change does to one id". Assumes nothing.
 use Rattle.std.specs.Prelude.{ℕ, Bool, true, false, not, cond, List}
-use Rattle.rules.specs.Ids.{insertId, memb, removeId}
+use Rattle.rules.specs.Ids.{insert_id, memb, remove_id}
 use Rattle.rules.specs.State.{Conf, Kind, addLearner, addNode, removeNode}
 
 -- "An id's standing: none (untracked), idle (tracked only), I, L, O, IO, OS for incoming, learner, outgoing, both voters, outgoing
@@ -51,19 +51,19 @@ places_of OS = places true false true false true
 
 -- the standing of an id that is there; where the check passed and no staged id is an incoming voter, it tells the places again
 -- (`Stands-of`)
-unfoldable pub standingIn : Places → Standing
-standingIn p =
+unfoldable pub standing_in : Places → Standing
+standing_in p =
     cond (not p.tracked) none
     (cond p.outgoing (cond p.incoming IO (cond p.staged OS O))
     (cond p.incoming I (cond p.learner L idle)))
 
 -- where x is in a configuration, t telling whether it is tracked
-abbrev pub placesIn : Bool → Conf → ℕ → Places
-placesIn t c x = places t (memb x c.incoming) (memb x c.outgoing) (memb x c.learners) (memb x c.staged)
+abbrev pub places_in : Bool → Conf → ℕ → Places
+places_in t c x = places t (memb x c.incoming) (memb x c.outgoing) (memb x c.learners) (memb x c.staged)
 
 abbrev pub put : Bool → ℕ → List ℕ → List ℕ
-put true x xs = insertId x xs
-put false x xs = removeId x xs
+put true x xs = insert_id x xs
+put false x xs = remove_id x xs
 
 -- x comes to the standing s in each set; no change touches outgoing
 abbrev pub place : ℕ → Standing → Conf → Conf
@@ -73,5 +73,5 @@ place x s c =
       outgoing = c.outgoing;
       learners = put (places_of s).learner x c.learners;
       staged = put (places_of s).staged x c.staged;
-      autoLeave = c.autoLeave;
+      auto_leave = c.auto_leave;
     }

@@ -1,12 +1,12 @@
 -- Document 02, d), tried on states. Above each line stands what it rules out: a shortcut that would give another answer there. Assumes nothing.
 use Rattle.std.specs.Prelude.{◌≡◌, refl, false, [], ◌∷◌}
-use Rattle.rules.specs.Ids.{apart, memb, above, ascending, insertId, insertAll, removeId, minus, sameIds}
-use Rattle.rules.specs.State.{State, confFormed, formed, ids}
+use Rattle.rules.specs.Ids.{apart, memb, above, ascending, insert_id, insert_all, remove_id, minus, same_ids}
+use Rattle.rules.specs.State.{State, conf_formed, formed, ids}
 use Rattle.rules.specs.Answers.{each, fault, ok}
-use Rattle.rules.specs.Check.{check, inOrder}
-use Rattle.rules.specs.Table.{standingIn, table}
-use Rattle.rules.specs.Changes.{change, changes, lastSays, pending}
-use Rattle.rules.specs.Calls.{list_of, readable, simple, simpleOf}
+use Rattle.rules.specs.Check.{check, in_order}
+use Rattle.rules.specs.Table.{standing_in, table}
+use Rattle.rules.specs.Changes.{change, changes, last_says, pending}
+use Rattle.rules.specs.Calls.{list_of, readable, simple, simple_of}
 use Rattle.rules.specs.Rows.{conf, of, olds}
 use Rattle.rules.specs.Cases.{m1, s0, s1, s2, s17, sj}
 use Rattle.rules.specs.Unplug.{another, quick, unplug}
@@ -40,10 +40,10 @@ pub unplugged :
     × (unplug untracked 2 ≡ fault 7 1)
     × (unplug s17 1 ≡ fault 14 0)
     × (unplug m1 1 ≡ fault 1 0)
-unfolding unplug simple readable list_of simpleOf check each changes change table standingIn lastSays pending formed confFormed memb above ascending insertId insertAll removeId minus ids
+unfolding unplug simple readable list_of simple_of check each changes change table standing_in last_says pending formed conf_formed memb above ascending insert_id insert_all remove_id minus ids
 unplugged = (refl, refl, refl, refl, refl, refl, refl, refl, refl, refl, refl)
 
 -- in order is needed for the short form: where 0 is the only voter, its removal is skipped
-pub not-of-any-state : (unplug zero_in 0 ≡ ok) × (quick zero_in 0 ≡ fault 17 0) × (inOrder zero_in ≡ false)
-unfolding unplug another inOrder apart sameIds simple readable list_of simpleOf check each changes change table standingIn lastSays pending formed confFormed memb above ascending insertId insertAll removeId minus ids
-not-of-any-state = (refl, refl, refl)
+pub not_of_any_state : (unplug zero_in 0 ≡ ok) × (quick zero_in 0 ≡ fault 17 0) × (in_order zero_in ≡ false)
+unfolding unplug another in_order apart same_ids simple readable list_of simple_of check each changes change table standing_in last_says pending formed conf_formed memb above ascending insert_id insert_all remove_id minus ids
+not_of_any_state = (refl, refl, refl)

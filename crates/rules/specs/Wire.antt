@@ -33,8 +33,8 @@ abbrev pub judged : Front → Found ℕ
 judged cut = bad 28
 judged (num v n) = cond (fits v n) (found v n) (bad 29)
 
-unfoldable pub varintIn : List ℕ → Found ℕ
-varintIn l = judged (front l)
+unfoldable pub varint_in : List ℕ → Found ℕ
+varint_in l = judged (front l)
 
 -- ** A field
 
@@ -48,21 +48,21 @@ abbrev pub single : Found ℕ → Found Payload
 single (bad e) = bad e
 single (found v n) = found (varint v) n
 
-abbrev pub fixedIn : ℕ → List ℕ → Found Payload
-fixedIn n l = cond (leb n (length l)) (found fixed n) (bad 28)
+abbrev pub fixed_in : ℕ → List ℕ → Found Payload
+fixed_in n l = cond (leb n (length l)) (found fixed n) (bad 28)
 
 -- the length, a varint, and as many bytes
-abbrev pub lengthIn : List ℕ → Found ℕ → Found Payload
-lengthIn l (bad e) = bad e
-lengthIn l (found v n) = cond (leb v (length l - n)) (found (bytes (take v (drop n l))) (n + v)) (bad 28)
+abbrev pub length_in : List ℕ → Found ℕ → Found Payload
+length_in l (bad e) = bad e
+length_in l (found v n) = cond (leb v (length l - n)) (found (bytes (take v (drop n l))) (n + v)) (bad 28)
 
 -- "29, .. wire type 3, 4, 6 or 7"
-unfoldable pub payloadIn : ℕ → List ℕ → Found Payload
-payloadIn w l =
-    cond (eqb w 0) (single (varintIn l))
-    (cond (eqb w 1) (fixedIn 8 l)
-    (cond (eqb w 2) (lengthIn l (varintIn l))
-    (cond (eqb w 5) (fixedIn 4 l) (bad 29))))
+unfoldable pub payload_in : ℕ → List ℕ → Found Payload
+payload_in w l =
+    cond (eqb w 0) (single (varint_in l))
+    (cond (eqb w 1) (fixed_in 8 l)
+    (cond (eqb w 2) (length_in l (varint_in l))
+    (cond (eqb w 5) (fixed_in 4 l) (bad 29))))
 
 pub record Field : Type 0 where
   pub number : ℕ
@@ -80,10 +80,10 @@ held f n (found p k) = cond (numbered f) (found (record { number = f; payload = 
 -- A tag is a varint: eight times the field's number, and the wire type.
 abbrev pub tagged : List ℕ → Found ℕ → Found Field
 tagged l (bad e) = bad e
-tagged l (found t n) = held (t / 8) n (payloadIn (t % 8) (drop n l))
+tagged l (found t n) = held (t / 8) n (payload_in (t % 8) (drop n l))
 
-unfoldable pub fieldIn : List ℕ → Found Field
-fieldIn l = tagged l (varintIn l)
+unfoldable pub field_in : List ℕ → Found Field
+field_in l = tagged l (varint_in l)
 
 -- ** A message
 
@@ -102,7 +102,7 @@ unfoldable pub row_of : ℕ → List ℕ → Row
 row_of zero [] = end
 row_of zero (b ∷ bs) = fault 28
 row_of (suc k) [] = end
-row_of (suc k) (b ∷ bs) = onward (fieldIn (b ∷ bs)) (λ n. row_of k (drop n (b ∷ bs)))
+row_of (suc k) (b ∷ bs) = onward (field_in (b ∷ bs)) (λ n. row_of k (drop n (b ∷ bs)))
 
 unfoldable pub row : List ℕ → Row
 row l = row_of (length l) l
@@ -115,13 +115,13 @@ groups zero n = []
 groups (suc k) n = cond (ltb n 128) (n ∷ []) ((128 + n % 128) ∷ groups k (n / 128))
 
 -- the shortest varint of a number below 2 ^ 64
-unfoldable pub varintOf : ℕ → List ℕ
-varintOf n = groups 10 n
+unfoldable pub varint_of : ℕ → List ℕ
+varint_of n = groups 10 n
 
 -- a tag, of a field's number and a wire type
 abbrev pub tag_of : ℕ → ℕ → List ℕ
-tag_of f w = varintOf (8 * f + w)
+tag_of f w = varint_of (8 * f + w)
 
 -- a field of wire type 2 with these bytes
-abbrev pub lengthField : ℕ → List ℕ → List ℕ
-lengthField f l = tag_of f 2 ++ (varintOf (length l) ++ l)
+abbrev pub length_field : ℕ → List ℕ → List ℕ
+length_field f l = tag_of f 2 ++ (varint_of (length l) ++ l)

@@ -5,40 +5,40 @@ use mathlib.Core.List.{List, [], ◌∷◌, ◌++◌, append_assoc}
 use native.Mathlib.Nat.{zero-add}
 use native.Mathlib.Numerals.{add-one}
 use native.Mathlib.Omega.{arith, min_cases}
-use lib.ListN.{length, set, length-append, take, drop, get_or, drop_of_length-le}
+use lib.ListN.{length, set, length_append, take, drop, get_or, drop_of_length_le}
 use lib.Seq.{sets, sets-eq, length-sets, set_out, drop-cons, take_all}
 use Rattle.text.specs.Text.{each, decimal, spaced, words}
 use Rattle.text.specs.Put.{Put, last}
 
 -- what is put past the end changes nothing
-pub sets-out : (xs l : List ℕ) (i : ℕ) → length l ≤ i → sets l i xs ≡ l
-sets-out [] l i h = refl
-sets-out (x ∷ xs) l i h = rw (set_out l i x h) (sets-out xs l (suc i) (omega arith))
+pub sets_out : (xs l : List ℕ) (i : ℕ) → length l ≤ i → sets l i xs ≡ l
+sets_out [] l i h = refl
+sets_out (x ∷ xs) l i h = rw (set_out l i x h) (sets_out xs l (suc i) (omega arith))
 
-pub sets-append : (xs ys l : List ℕ) (i : ℕ) → sets l i (xs ++ ys) ≡ sets (sets l i xs) (i + length xs) ys
-sets-append [] ys l i = ap (λ (k : ℕ). sets l k ys) (omega arith)
-sets-append (x ∷ xs) ys l i = sets-append xs ys (set l i x) (suc i) ∙ ap (λ (k : ℕ). sets (sets (set l i x) (suc i) xs) k ys) (omega arith)
+pub sets_append : (xs ys l : List ℕ) (i : ℕ) → sets l i (xs ++ ys) ≡ sets (sets l i xs) (i + length xs) ys
+sets_append [] ys l i = ap (λ (k : ℕ). sets l k ys) (omega arith)
+sets_append (x ∷ xs) ys l i = sets_append xs ys (set l i x) (suc i) ∙ ap (λ (k : ℕ). sets (sets (set l i x) (suc i) xs) k ys) (omega arith)
 
 -- past the largest place is past the end
 sets-min : (xs l : List ℕ) (i : ℕ) → length l ≤ last → sets l (min i last) xs ≡ sets l i xs
-sets-min xs l i h = min_cases i last (sets l (min i last) xs ≡ sets l i xs) (λ k e. rw e) (λ k e. rw e (sets-out xs l last h ∙ sym (sets-out xs l i (omega arith))))
+sets-min xs l i h = min_cases i last (sets l (min i last) xs ≡ sets l i xs) (λ k e. rw e) (λ k e. rw e (sets_out xs l last h ∙ sym (sets_out xs l i (omega arith))))
 
 sets_then : (xs ys l : List ℕ) (i : ℕ) → length l ≤ last → sets (sets l i xs) (min (i + length xs) last) ys ≡ sets l i (xs ++ ys)
-sets_then xs ys l i h = sets-min ys (sets l i xs) (i + length xs) (omega (arith, length-sets l i xs)) ∙ sym (sets-append xs ys l i)
+sets_then xs ys l i h = sets-min ys (sets l i xs) (i + length xs) (omega (arith, length-sets l i xs)) ∙ sym (sets_append xs ys l i)
 
 -- the empty text
-pub put-none : {l : List ℕ} {at : ℕ} → at ≤ last → Put l at [] l at
-put-none h = record { bytes = refl; end = omega arith }
+pub put_none : {l : List ℕ} {at : ℕ} → at ≤ last → Put l at [] l at
+put_none h = record { bytes = refl; end = omega arith }
 
 -- a byte past the end
-pub put-out : {l : List ℕ} {at b p : ℕ} → length l ≤ at → p ≡ min (at + 1) last → Put l at (b ∷ []) l p
-put-out {l} {at} {b} h e = record { bytes = sym (set_out l at b h); end = e }
+pub put_out : {l : List ℕ} {at b p : ℕ} → length l ≤ at → p ≡ min (at + 1) last → Put l at (b ∷ []) l p
+put_out {l} {at} {b} h e = record { bytes = sym (set_out l at b h); end = e }
 
 -- one text after another
 pub put_then : {l m n x y : List ℕ} {at p q : ℕ} → length l ≤ last → Put l at x m p → Put m p y n q → Put l at (x ++ y) n q
 put_then {l} {m} {n} {x} {y} {at} {p} {q} h f g = record {
   bytes = g.bytes ∙ rw (f.bytes, f.end) (sets_then x y l at h);
-  end = omega (arith, f.end, g.end, length-append x y);
+  end = omega (arith, f.end, g.end, length_append x y);
 }
 
 pub put-length : {l x m : List ℕ} {at p : ℕ} → Put l at x m p → length m ≡ length l
@@ -74,11 +74,11 @@ rest_put {old} {text} {out} {x} {rest} {new} {at} {p} {q} r f = record {
   fits = r.fits;
   place = omega (arith, f.end);
   bytes = rw (f.bytes, f.end) (sets_then x rest out p (omega (arith, rest-length r, r.fits)) ∙ r.bytes);
-  end = omega (arith, r.end, f.end, length-append x rest);
+  end = omega (arith, r.end, f.end, length_append x rest);
 }
 
-pub rest-none : {old text out : List ℕ} {at p : ℕ} → Rest old at text out p [] → Put old at text out p
-rest-none r = record { bytes = r.bytes; end = omega (arith, r.place, r.end) }
+pub rest_none : {old text out : List ℕ} {at p : ℕ} → Rest old at text out p [] → Put old at text out p
+rest_none r = record { bytes = r.bytes; end = omega (arith, r.place, r.end) }
 
 pub rest-last : {old text out x new : List ℕ} {at p q : ℕ} → Rest old at text out p x → Put out p x new q → Put old at text new q
 rest-last r f = record { bytes = f.bytes ∙ r.bytes; end = omega (arith, r.end, f.end) }
@@ -88,37 +88,37 @@ pub record Passing {A : Type 0} (f : A → List ℕ) (xs : List A) (text old : L
   pub within : i ≤ length xs
   pub left : Rest old at text out p (each f (drop i xs))
 
-pub pass-from : {A : Type 0} (f : A → List ℕ) (xs : List A) (k : ℕ) {l : List ℕ} {at : ℕ} → k ≤ length xs → length l ≤ last → at ≤ last → Passing f xs (each f (drop k xs)) l at l at k
-pass-from f xs k h m n = record { within = h; left = rest_all m n }
+pub pass_from : {A : Type 0} (f : A → List ℕ) (xs : List A) (k : ℕ) {l : List ℕ} {at : ℕ} → k ≤ length xs → length l ≤ last → at ≤ last → Passing f xs (each f (drop k xs)) l at l at k
+pass_from f xs k h m n = record { within = h; left = rest_all m n }
 
-pub pass-start : {A : Type 0} {f : A → List ℕ} {xs : List A} {l : List ℕ} {at : ℕ} → length l ≤ last → at ≤ last → Passing f xs (each f xs) l at l at 0
-pass-start {A} {f} {xs} h k = pass-from f xs 0 (omega arith) h k
+pub pass_start : {A : Type 0} {f : A → List ℕ} {xs : List A} {l : List ℕ} {at : ℕ} → length l ≤ last → at ≤ last → Passing f xs (each f xs) l at l at 0
+pass_start {A} {f} {xs} h k = pass_from f xs 0 (omega arith) h k
 
 each_at : {A : Type 0} (f : A → List ℕ) (xs : List A) (i : ℕ) (d : A) → i < length xs → each f (drop i xs) ≡ f (get_or xs i d) ++ each f (drop (i + 1) xs)
 unfolding each
 each_at f xs i d h = rw (drop-cons xs i d h, add-one)
 
 module _ {A : Type 0} {f : A → List ℕ} {xs : List A} {text old : List ℕ} {at : ℕ} {out : List ℕ} {p i : ℕ} (s : Passing f xs text old at out p i) where
-  pub pass-end : length xs ≤ i → Put old at text out p
+  pub pass_end : length xs ≤ i → Put old at text out p
   unfolding each
-  pass-end h = rest-none (rw (drop_of_length-le xs h) at s.left)
+  pass_end h = rest_none (rw (drop_of_length_le xs h) at s.left)
 
-  pub pass-length : length out ≡ length old
-  pass-length = rest-length s.left
+  pub pass_length : length out ≡ length old
+  pass_length = rest-length s.left
 
-  pub pass-next : (d : A) → i < length xs → {new : List ℕ} {q : ℕ} → Put out p (f (get_or xs i d)) new q → Passing f xs text old at new q (i + 1)
-  pass-next d h g = record { within = omega arith; left = rest_put (rw (each_at f xs i d h) at s.left) g }
+  pub pass_next : (d : A) → i < length xs → {new : List ℕ} {q : ℕ} → Put out p (f (get_or xs i d)) new q → Passing f xs text old at new q (i + 1)
+  pass_next d h g = record { within = omega arith; left = rest_put (rw (each_at f xs i d h) at s.left) g }
 
 -- bytes, one after the other
-pub each-byte : (xs : List ℕ) → each (λ (b : ℕ). b ∷ []) xs ≡ xs
+pub each_byte : (xs : List ℕ) → each (λ (b : ℕ). b ∷ []) xs ≡ xs
 unfolding each
-each-byte [] = refl
-each-byte (x ∷ xs) = ap (λ (l : List ℕ). x ∷ l) (each-byte xs)
+each_byte [] = refl
+each_byte (x ∷ xs) = ap (λ (l : List ℕ). x ∷ l) (each_byte xs)
 
-pub words-none : (xs : List ℕ) → length xs ≡ 0 → words xs ≡ []
+pub words_none : (xs : List ℕ) → length xs ≡ 0 → words xs ≡ []
 unfolding words
-words-none [] h = refl
-words-none (x ∷ xs) h = absurd (omega arith)
+words_none [] h = refl
+words_none (x ∷ xs) h = absurd (omega arith)
 
 pub words-some : (xs : List ℕ) → (length xs ≡ 0 → ⊥) → words xs ≡ decimal (get_or xs 0 0) ++ each spaced (take (length xs - 1) (drop 1 xs))
 unfolding words

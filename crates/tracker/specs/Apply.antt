@@ -1,11 +1,11 @@
--- What `apply_conf` answers and leaves, for every state, configuration and log: the rules' `applyConf` through the bridge, and 1 where
+-- What `apply_conf` answers and leaves, for every state, configuration and log: the rules' `apply_conf` through the bridge, and 1 where
 -- one of the three is malformed. Assumes nothing.
 use Rattle.std.specs.Prelude.{ℕ, ◌&&◌, cond}
 use Rattle.rules.specs.Answers as rules
 use Rattle.rules.specs.Answers.{ok, fault}
-use Rattle.rules.specs.Apply.{applyConf}
-use Rattle.tracker.specs.Bridge.{confOf, state_of, trackerOf, logOf}
-use Rattle.tracker.specs.Form.{confWellFormed, trackerWellFormed, logWellFormed}
+use Rattle.rules.specs.Apply.{apply_conf}
+use Rattle.tracker.specs.Bridge.{conf_of, state_of, tracker_of, log_of}
+use Rattle.tracker.specs.Form.{conf_well_formed, tracker_well_formed, log_well_formed}
 use Rattle.tracker.specs.declared.Configuration.{Configuration}
 use Rattle.tracker.specs.declared.ChangeLog.{ChangeLog}
 use Rattle.tracker.specs.declared.Tracker.{Tracker}
@@ -22,21 +22,21 @@ id_of ok = 0
 id_of (fault n x) = x
 
 -- number and id as a struct
-abbrev pub verdictOf : rules.Verdict → Verdict
-verdictOf v = record { number = number_of v; id = id_of v }
+abbrev pub verdict_of : rules.Verdict → Verdict
+verdict_of v = record { number = number_of v; id = id_of v }
 
-abbrev pub refusedOf : Tracker → ℕ → ℕ → Outcome
-refusedOf t n x = record { number = n; id = x; tracker = t }
+abbrev pub refused_of : Tracker → ℕ → ℕ → Outcome
+refused_of t n x = record { number = n; id = x; tracker = t }
 
 -- a rules' outcome as a struct
-abbrev pub outcomeOf : rules.Outcome → Outcome
-outcomeOf o = record { number = number_of o.verdict; id = id_of o.verdict; tracker = trackerOf o.state }
+abbrev pub outcome_of : rules.Outcome → Outcome
+outcome_of o = record { number = number_of o.verdict; id = id_of o.verdict; tracker = tracker_of o.state }
 
-unfoldable pub applyOf : Tracker → Configuration → ChangeLog → ℕ → Outcome
-applyOf t c log next =
-    cond (trackerWellFormed t && confWellFormed c && logWellFormed log)
-    (outcomeOf (applyConf (state_of t) (confOf c) (logOf log) next))
-    (refusedOf t 1 0)
+unfoldable pub apply_of : Tracker → Configuration → ChangeLog → ℕ → Outcome
+apply_of t c log next =
+    cond (tracker_well_formed t && conf_well_formed c && log_well_formed log)
+    (outcome_of (apply_conf (state_of t) (conf_of c) (log_of log) next))
+    (refused_of t 1 0)
 
-abbrev pub verdictIn : Outcome → Verdict
-verdictIn o = record { number = o.number; id = o.id }
+abbrev pub verdict_in : Outcome → Verdict
+verdict_in o = record { number = o.number; id = o.id }

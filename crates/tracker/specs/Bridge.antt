@@ -2,10 +2,10 @@
 -- values these undo each other (proofs/Bridge.antt). Assumes nothing.
 use Rattle.std.specs.Prelude.{ℕ, ◌-◌, List, [], ◌∷◌, ◌++◌, length, take, replicate}
 use Rattle.progress.specs.declared.Progress.{Progress}
-use Rattle.progress.specs.Record.{unusedRecord}
+use Rattle.progress.specs.Record.{unused_record}
 use Rattle.rules.specs.State as rules
 use Rattle.rules.specs.State.{Conf, Peer, State, ids, Entry, add, remove}
-use Rattle.idset.specs.Set.{held, setOf}
+use Rattle.idset.specs.Set.{held, set_of}
 use Rattle.idset.specs.declared.IdSet.{IdSet}
 use Rattle.tracker.specs.declared.Configuration.{Configuration}
 use Rattle.tracker.specs.declared.MapChangeType.{MapChangeType}
@@ -18,47 +18,47 @@ use Rattle.tracker.specs.declared.ConfState.{ConfState}
 
 -- ** Configurations
 
-abbrev pub confOf : Configuration → Conf
-confOf c =
+abbrev pub conf_of : Configuration → Conf
+conf_of c =
     record {
       incoming = held c.incoming;
       outgoing = held c.outgoing;
       learners = held c.learners;
       staged = held c.learners_next;
-      autoLeave = c.auto_leave;
+      auto_leave = c.auto_leave;
     }
 
-abbrev pub configurationOf : Conf → Configuration
-configurationOf c =
+abbrev pub configuration_of : Conf → Configuration
+configuration_of c =
     record {
-      incoming = setOf c.incoming;
-      outgoing = setOf c.outgoing;
-      learners = setOf c.learners;
-      learners_next = setOf c.staged;
-      auto_leave = c.autoLeave;
+      incoming = set_of c.incoming;
+      outgoing = set_of c.outgoing;
+      learners = set_of c.learners;
+      learners_next = set_of c.staged;
+      auto_leave = c.auto_leave;
     }
 
 -- ** The state
 
 -- the tracked ids, each with the record at its place
-unfoldable pub peersOf : List ℕ → List Progress → List Peer
-peersOf [] rs = []
-peersOf (x ∷ xs) [] = []
-peersOf (x ∷ xs) (r ∷ rs) = record { id = x; progress = r } ∷ peersOf xs rs
+unfoldable pub peers_of : List ℕ → List Progress → List Peer
+peers_of [] rs = []
+peers_of (x ∷ xs) [] = []
+peers_of (x ∷ xs) (r ∷ rs) = record { id = x; progress = r } ∷ peers_of xs rs
 
-unfoldable pub recordsOf : List Peer → List Progress
-recordsOf [] = []
-recordsOf (p ∷ ps) = p.progress ∷ recordsOf ps
+unfoldable pub records_of : List Peer → List Progress
+records_of [] = []
+records_of (p ∷ ps) = p.progress ∷ records_of ps
 
 -- the records of the tracked, and unused ones after them
-unfoldable pub recordPlaces : List Peer → List Progress
-recordPlaces ps = recordsOf ps ++ replicate (64 - length ps) unusedRecord
+unfoldable pub record_places : List Peer → List Progress
+record_places ps = records_of ps ++ replicate (64 - length ps) unused_record
 
 abbrev pub state_of : Tracker → State
-state_of t = record { conf = confOf t.conf; peers = peersOf (held t.ids) t.records; maxInflight = t.max_inflight }
+state_of t = record { conf = conf_of t.conf; peers = peers_of (held t.ids) t.records; max_inflight = t.max_inflight }
 
-abbrev pub trackerOf : State → Tracker
-trackerOf s = record { conf = configurationOf s.conf; ids = setOf (ids s.peers); records = recordPlaces s.peers; max_inflight = s.maxInflight }
+abbrev pub tracker_of : State → Tracker
+tracker_of s = record { conf = configuration_of s.conf; ids = set_of (ids s.peers); records = record_places s.peers; max_inflight = s.max_inflight }
 
 -- ** Logs
 
@@ -69,54 +69,54 @@ entry Remove x = remove x
 abbrev pub entry_of : MapChange → Entry
 entry_of e = entry e.kind e.id
 
-abbrev pub mapChangeOf : Entry → MapChange
-mapChangeOf (add x) = record { id = x; kind = Add }
-mapChangeOf (remove x) = record { id = x; kind = Remove }
+abbrev pub map_change_of : Entry → MapChange
+map_change_of (add x) = record { id = x; kind = Add }
+map_change_of (remove x) = record { id = x; kind = Remove }
 
-unfoldable pub entriesOf : List MapChange → List Entry
-entriesOf [] = []
-entriesOf (e ∷ es) = entry_of e ∷ entriesOf es
+unfoldable pub entries_of : List MapChange → List Entry
+entries_of [] = []
+entries_of (e ∷ es) = entry_of e ∷ entries_of es
 
-unfoldable pub mapChangesOf : List Entry → List MapChange
-mapChangesOf [] = []
-mapChangesOf (e ∷ es) = mapChangeOf e ∷ mapChangesOf es
+unfoldable pub map_changes_of : List Entry → List MapChange
+map_changes_of [] = []
+map_changes_of (e ∷ es) = map_change_of e ∷ map_changes_of es
 
 -- what an unused place holds
 abbrev pub blank : MapChange
 blank = record { id = 0; kind = Add }
 
-abbrev pub logOf : ChangeLog → List Entry
-logOf l = entriesOf (take l.count l.entries)
+abbrev pub log_of : ChangeLog → List Entry
+log_of l = entries_of (take l.count l.entries)
 
-unfoldable pub changeLogOf : List Entry → ChangeLog
-changeLogOf es = record { entries = mapChangesOf es ++ replicate (256 - length es) blank; count = length es }
+unfoldable pub change_log_of : List Entry → ChangeLog
+change_log_of es = record { entries = map_changes_of es ++ replicate (256 - length es) blank; count = length es }
 
 -- ** ConfStates
 
 -- the entries of a list
-abbrev pub entriesIn : IdList → List ℕ
-entriesIn l = take l.len l.ids
+abbrev pub entries_in : IdList → List ℕ
+entries_in l = take l.len l.ids
 
 -- a set as a list: the same places, the same count
-abbrev pub listIn : IdSet → IdList
-listIn s = record { ids = s.ids; len = s.len }
+abbrev pub list_in : IdSet → IdList
+list_in s = record { ids = s.ids; len = s.len }
 
 abbrev pub lists_of : ConfState → rules.ConfState
 lists_of c =
     record {
-      voters = entriesIn c.voters;
-      learners = entriesIn c.learners;
-      votersOutgoing = entriesIn c.voters_outgoing;
-      learnersNext = entriesIn c.learners_next;
-      autoLeave = c.auto_leave;
+      voters = entries_in c.voters;
+      learners = entries_in c.learners;
+      voters_outgoing = entries_in c.voters_outgoing;
+      learners_next = entries_in c.learners_next;
+      auto_leave = c.auto_leave;
     }
 
-abbrev pub confStateOf : rules.ConfState → ConfState
-confStateOf c =
+abbrev pub conf_state_of : rules.ConfState → ConfState
+conf_state_of c =
     record {
-      voters = listIn (setOf c.voters);
-      learners = listIn (setOf c.learners);
-      voters_outgoing = listIn (setOf c.votersOutgoing);
-      learners_next = listIn (setOf c.learnersNext);
-      auto_leave = c.autoLeave;
+      voters = list_in (set_of c.voters);
+      learners = list_in (set_of c.learners);
+      voters_outgoing = list_in (set_of c.voters_outgoing);
+      learners_next = list_in (set_of c.learners_next);
+      auto_leave = c.auto_leave;
     }

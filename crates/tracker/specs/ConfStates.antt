@@ -1,18 +1,18 @@
--- What `to_conf_state` answers, for every state: the rules' `toConfState` through the bridge. Assumes nothing.
+-- What `to_conf_state` answers, for every state: the rules' `to_conf_state` through the bridge. Assumes nothing.
 use Rattle.std.specs.Prelude.{cond}
 use Rattle.rules.specs.Answers.{fault}
 use Rattle.rules.specs.Apply as rules
-use Rattle.rules.specs.Apply.{noConfState, toConfState}
-use Rattle.tracker.specs.Bridge.{state_of, confStateOf}
-use Rattle.tracker.specs.Form.{trackerWellFormed}
+use Rattle.rules.specs.Apply.{no_conf_state, to_conf_state}
+use Rattle.tracker.specs.Bridge.{state_of, conf_state_of}
+use Rattle.tracker.specs.Form.{tracker_well_formed}
 use Rattle.tracker.specs.Apply.{number_of, id_of}
 use Rattle.tracker.specs.declared.Tracker.{Tracker}
 use Rattle.tracker.specs.declared.Written.{Written}
 
 -- a rules' answer as a struct
-abbrev pub writtenIn : rules.Written → Written
-writtenIn w = record { number = number_of w.verdict; id = id_of w.verdict; conf_state = confStateOf w.confState }
+abbrev pub written_in : rules.Written → Written
+written_in w = record { number = number_of w.verdict; id = id_of w.verdict; conf_state = conf_state_of w.conf_state }
 
 -- "A malformed state gets 1, empty lists and a false flag."
 unfoldable pub written_of : Tracker → Written
-written_of t = cond (trackerWellFormed t) (writtenIn (toConfState (state_of t))) (writtenIn (record { verdict = fault 1 0; confState = noConfState }))
+written_of t = cond (tracker_well_formed t) (written_in (to_conf_state (state_of t))) (written_in (record { verdict = fault 1 0; conf_state = no_conf_state }))

@@ -4,31 +4,31 @@ use Rattle.progress.specs.declared.Progress.{Progress}
 use Rattle.rules.specs.Ids.{memb}
 use Rattle.rules.specs.State.{Peer, ids, Entry, add, remove}
 use Rattle.rules.specs.Apply.{track, untrack}
-use Rattle.idset.specs.Set.{held, setOf, wellFormed}
+use Rattle.idset.specs.Set.{held, set_of, well_formed}
 use Rattle.idset.specs.declared.IdSet.{IdSet}
-use Rattle.tracker.specs.Bridge.{peersOf, recordPlaces}
-use Rattle.tracker.specs.Form.{allUnused}
+use Rattle.tracker.specs.Bridge.{peers_of, record_places}
+use Rattle.tracker.specs.Form.{all_unused}
 use Rattle.tracker.specs.declared.apply.Peers.{Peers}
 
 -- the ids are a well-formed set, and each place after them has the unused record
 pub record Rostered (s : IdSet) (rs : List Progress) : Type 0 where
-  pub set : wellFormed s ≡ true
+  pub set : well_formed s ≡ true
   pub long : length rs ≡ 64
-  pub clear : allUnused (drop s.len rs) ≡ true
+  pub clear : all_unused (drop s.len rs) ≡ true
 
-abbrev pub peersIn : Peers → List Peer
-peersIn p = peersOf (held p.ids) p.records
+abbrev pub peers_in : Peers → List Peer
+peers_in p = peers_of (held p.ids) p.records
 
-abbrev pub rosterOf : Bool → ℕ → List Peer → Peers
-rosterOf full x ps = record { ids = setOf (ids ps); records = recordPlaces ps; full = full; id = x }
+abbrev pub roster_of : Bool → ℕ → List Peer → Peers
+roster_of full x ps = record { ids = set_of (ids ps); records = record_places ps; full = full; id = x }
 
 -- one entry, r being the fresh record: as the rules have it, or no room
-unfoldable pub enterIn : Progress → Entry → List Peer → Peers
-enterIn r (add x) ps = cond (not (memb x (ids ps)) && leb 64 (length (ids ps))) (rosterOf true x ps) (rosterOf false 0 (track x r ps))
-enterIn r (remove x) ps = rosterOf false 0 (untrack x ps)
+unfoldable pub enter_in : Progress → Entry → List Peer → Peers
+enter_in r (add x) ps = cond (not (memb x (ids ps)) && leb 64 (length (ids ps))) (roster_of true x ps) (roster_of false 0 (track x r ps))
+enter_in r (remove x) ps = roster_of false 0 (untrack x ps)
 
 -- the entries in order, up to the first for which there is no room
-unfoldable pub enrolIn : Progress → List Entry → List Peer → Peers
-enrolIn r [] ps = rosterOf false 0 ps
-enrolIn r (add x ∷ es) ps = cond (not (memb x (ids ps)) && leb 64 (length (ids ps))) (rosterOf true x ps) (enrolIn r es (track x r ps))
-enrolIn r (remove x ∷ es) ps = enrolIn r es (untrack x ps)
+unfoldable pub enrol_in : Progress → List Entry → List Peer → Peers
+enrol_in r [] ps = roster_of false 0 ps
+enrol_in r (add x ∷ es) ps = cond (not (memb x (ids ps)) && leb 64 (length (ids ps))) (roster_of true x ps) (enrol_in r es (track x r ps))
+enrol_in r (remove x ∷ es) ps = enrol_in r es (untrack x ps)

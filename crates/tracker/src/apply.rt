@@ -1,12 +1,12 @@
 // `apply_conf` of src/tracker.rs.
 ghost use Rattle.std.specs.Prelude.{◌≡◌, ◌<◌};
-ghost use Rattle.progress.specs.Record.{unusedRecord};
+ghost use Rattle.progress.specs.Record.{unused_record};
 ghost use Rattle.rules.specs.State.{add, remove};
 ghost use Rattle.idset.specs.Set.{held};
-ghost use Rattle.tracker.specs.Bridge.{peersOf, entry_of, logOf};
-ghost use Rattle.tracker.specs.Apply.{applyOf, verdictIn, refusedOf};
-ghost use Rattle.idset.specs.Places.{insertAt, removeAt};
-ghost use Rattle.tracker.specs.Enrol.{Rostered, peersIn, enterIn, enrolIn};
+ghost use Rattle.tracker.specs.Bridge.{peers_of, entry_of, log_of};
+ghost use Rattle.tracker.specs.Apply.{apply_of, verdict_in, refused_of};
+ghost use Rattle.idset.specs.Places.{insert_at, remove_at};
+ghost use Rattle.tracker.specs.Enrol.{Rostered, peers_in, enter_in, enrol_in};
 
 use crate::{
     ChangeLog, Configuration, MapChange, MapChangeType, Outcome, Tracker, Verdict, numbers,
@@ -25,7 +25,7 @@ pub struct Peers {
 
 // Applies configuration and updates progress map to match the configuration.
 pub fn apply(t: Tracker, conf: Configuration, log: ChangeLog, next_idx: u64) -> Outcome
-    ensures { result ≡ applyOf t conf log next_idx }
+    ensures { result ≡ apply_of t conf log next_idx }
 {
     if t.is_malformed() {
         return refused(t, numbers::MALFORMED, 0);
@@ -59,7 +59,7 @@ pub fn apply(t: Tracker, conf: Configuration, log: ChangeLog, next_idx: u64) -> 
 
 // A refusal, with the state given.
 pub fn refused(t: Tracker, number: u64, id: u64) -> Outcome
-    ensures { result ≡ refusedOf t number id }
+    ensures { result ≡ refused_of t number id }
 {
     Outcome {
         number,
@@ -70,7 +70,7 @@ pub fn refused(t: Tracker, number: u64, id: u64) -> Outcome
 
 // A tracker lent for change is updated where it stands.
 pub fn apply_conf(t: &mut Tracker, conf: Configuration, log: ChangeLog, next_idx: u64) -> Verdict
-    ensures { (result ≡ verdictIn (applyOf t.old conf log next_idx)) × (t.new ≡ (applyOf t.old conf log next_idx).tracker) }
+    ensures { (result ≡ verdict_in (apply_of t.old conf log next_idx)) × (t.new ≡ (apply_of t.old conf log next_idx).tracker) }
 {
     let a = apply(*t, conf, log, next_idx);
     *t = a.tracker;
@@ -82,7 +82,7 @@ pub fn apply_conf(t: &mut Tracker, conf: Configuration, log: ChangeLog, next_idx
 
 // The tracker with the answer applied to it where it stands: a tracker that came by value is lent to `apply_conf`.
 pub fn applied(t: Tracker, conf: Configuration, log: ChangeLog, next_idx: u64) -> Outcome
-    ensures { result ≡ applyOf t conf log next_idx }
+    ensures { result ≡ apply_of t conf log next_idx }
 {
     let mut lent = t;
     let v = apply_conf(&mut lent, conf, log, next_idx);
@@ -101,7 +101,7 @@ fn enrol(
     fresh: Progress,
 ) -> Peers
     requires { Rostered ids records }
-    ensures { result ≡ enrolIn fresh (logOf log) (peersOf (held ids) records) }
+    ensures { result ≡ enrol_in fresh (log_of log) (peers_of (held ids) records) }
 {
     let mut peers = Peers {
         ids,
@@ -129,7 +129,7 @@ fn enrol(
 // One entry: Add writes a fresh record over any old one; Remove of an absent id does nothing.
 fn enter(p: Peers, e: MapChange, fresh: Progress) -> Peers
     requires { Rostered p.ids p.records }
-    ensures { result ≡ enterIn fresh (entry_of e) (peersIn p) }
+    ensures { result ≡ enter_in fresh (entry_of e) (peers_in p) }
 {
     let id = e.id;
     let kind = e.kind;
@@ -142,7 +142,7 @@ fn enter(p: Peers, e: MapChange, fresh: Progress) -> Peers
 // `id` tracked with the record `r`, over any old one; no room where 64 others are.
 fn track(p: Peers, id: u64, r: Progress) -> Peers
     requires { Rostered p.ids p.records }
-    ensures { result ≡ enterIn r (add id) (peersIn p) }
+    ensures { result ≡ enter_in r (add id) (peers_in p) }
 {
     let ids = p.ids;
     let len = ids.len;
@@ -179,7 +179,7 @@ fn track(p: Peers, id: u64, r: Progress) -> Peers
 // `id` no longer tracked.
 fn untrack(p: Peers, id: u64) -> Peers
     requires { Rostered p.ids p.records }
-    ensures { result ≡ enterIn unusedRecord (remove id) (peersIn p) }
+    ensures { result ≡ enter_in unused_record (remove id) (peers_in p) }
 {
     let ids = p.ids;
     let len = ids.len;
@@ -210,7 +210,7 @@ fn insert_record(
     at: usize,
     r: Progress,
 ) -> [Progress; Tracker::CAPACITY]
-    ensures { result ≡ insertAt at r records }
+    ensures { result ≡ insert_at at r records }
 {
     let mut out = records;
     let mut carried = r;
@@ -227,7 +227,7 @@ fn insert_record(
 // `records` without the place `at`: those after it stand one place earlier, and the last place is unused.
 fn remove_record(records: [Progress; Tracker::CAPACITY], at: usize) -> [Progress; Tracker::CAPACITY]
     requires { at < 64 }
-    ensures { result ≡ removeAt at unusedRecord records }
+    ensures { result ≡ remove_at at unused_record records }
 {
     let mut out = records;
     let mut i = at;

@@ -1,7 +1,7 @@
 // `to_conf_state` of src/tracker.rs.
 ghost use Rattle.std.specs.Prelude.{◌≡◌};
-ghost use Rattle.rules.specs.Apply.{noConfState};
-ghost use Rattle.tracker.specs.Bridge.{listIn, confStateOf};
+ghost use Rattle.rules.specs.Apply.{no_conf_state};
+ghost use Rattle.tracker.specs.Bridge.{list_in, conf_state_of};
 ghost use Rattle.tracker.specs.ConfStates.{written_of};
 
 use crate::{ConfState, IdList, Tracker, Written, numbers};
@@ -38,7 +38,7 @@ impl Tracker {
 impl ConfState {
     // Four empty lists and a false flag.
     pub fn new() -> Self
-        ensures { result ≡ confStateOf noConfState }
+        ensures { result ≡ conf_state_of no_conf_state }
     {
         let none = list_of(IdSet::new());
         ConfState {
@@ -53,7 +53,7 @@ impl ConfState {
 
 // A set as a list: the same places, the same count.
 fn list_of(set: IdSet) -> IdList
-    ensures { result ≡ listIn set }
+    ensures { result ≡ list_in set }
 {
     let ids = set.ids;
     let len = set.len;

@@ -1,13 +1,13 @@
 // Well formed: document 01, "The state and its numbers". Each test answers whether its value is malformed.
 ghost use Rattle.std.specs.Prelude.{◌≡◌, not, drop};
-ghost use Rattle.tracker.specs.Form.{confWellFormed, allUnused, trackerWellFormed, isBlank, allBlank, logWellFormed};
+ghost use Rattle.tracker.specs.Form.{conf_well_formed, all_unused, tracker_well_formed, is_blank, all_blank, log_well_formed};
 
 use crate::{ChangeLog, Configuration, MapChange, MapChangeType, Tracker};
 use progress::Progress;
 
 impl Configuration {
     pub fn is_malformed(self) -> bool
-        ensures { result ≡ not (confWellFormed self) }
+        ensures { result ≡ not (conf_well_formed self) }
     {
         if self.incoming.is_malformed() {
             return true;
@@ -25,7 +25,7 @@ impl Configuration {
 impl MapChange {
     // Whether it is what an unused place holds: an Add of 0.
     pub fn is_blank(self) -> bool
-        ensures { result ≡ isBlank self }
+        ensures { result ≡ is_blank self }
     {
         if self.id != 0 {
             return false;
@@ -40,7 +40,7 @@ impl MapChange {
 
 impl ChangeLog {
     pub fn is_malformed(self) -> bool
-        ensures { result ≡ not (logWellFormed self) }
+        ensures { result ≡ not (log_well_formed self) }
     {
         let count = self.count;
         if Self::CAPACITY < count {
@@ -53,7 +53,7 @@ impl ChangeLog {
 
 impl Tracker {
     pub fn is_malformed(self) -> bool
-        ensures { result ≡ not (trackerWellFormed self) }
+        ensures { result ≡ not (tracker_well_formed self) }
     {
         if self.conf.is_malformed() {
             return true;
@@ -69,7 +69,7 @@ impl Tracker {
 
 // Whether a record from `from` on is not the unused one.
 fn used_from(records: [Progress; Tracker::CAPACITY], from: usize) -> bool
-    ensures { result ≡ not (allUnused (drop from records)) }
+    ensures { result ≡ not (all_unused (drop from records)) }
 {
     let mut i = from;
     while i < Tracker::CAPACITY {
@@ -84,7 +84,7 @@ fn used_from(records: [Progress; Tracker::CAPACITY], from: usize) -> bool
 
 // Whether an entry from `from` on is not blank.
 fn written_from(entries: [MapChange; ChangeLog::CAPACITY], from: usize) -> bool
-    ensures { result ≡ not (allBlank (drop from entries)) }
+    ensures { result ≡ not (all_blank (drop from entries)) }
 {
     let mut i = from;
     while i < ChangeLog::CAPACITY {

@@ -1,8 +1,8 @@
 // The state of a group as its leader tracks it: src/tracker.rs, the membership half. Sets are `IdSet`s, the progress map is the tracked
 // ids with a record at the same place, `Vec` logs are a count and an array, `Result`s a number and an id.
 ghost use Rattle.std.specs.Prelude.{◌≡◌, []};
-ghost use Rattle.rules.specs.State.{noConf, fresh};
-ghost use Rattle.tracker.specs.Bridge.{configurationOf, changeLogOf, trackerOf};
+ghost use Rattle.rules.specs.State.{no_conf, fresh};
+ghost use Rattle.tracker.specs.Bridge.{configuration_of, change_log_of, tracker_of};
 
 use idset::IdSet;
 use progress::Progress;
@@ -93,7 +93,7 @@ pub struct Verdict {
 impl Configuration {
     // Nothing in any set, the flag false.
     pub fn new() -> Self
-        ensures { result ≡ configurationOf noConf }
+        ensures { result ≡ configuration_of no_conf }
     {
         let none = IdSet::new();
         Configuration {
@@ -111,7 +111,7 @@ impl ChangeLog {
 
     // The empty log.
     pub fn new() -> Self
-        ensures { result ≡ changeLogOf [] }
+        ensures { result ≡ change_log_of [] }
     {
         let unused = MapChange {
             id: 0,
@@ -137,7 +137,7 @@ impl Tracker {
 
     // The fresh state.
     pub fn new(max_inflight: u64) -> Self
-        ensures { result ≡ trackerOf (fresh max_inflight) }
+        ensures { result ≡ tracker_of (fresh max_inflight) }
     {
         let conf = Configuration::new();
         let ids = IdSet::new();

@@ -4,7 +4,7 @@ use mathlib.Core.Path.{◌≡◌, refl, ap, sym, ◌∙◌}
 use native.Mathlib.Omega.{arith}
 use native.Mathlib.Nat.{add-zero}
 use lib.Dec.{eqb}
-use Rattle.unplug.specs.Words.{recordBy, recordsBy, setBy, stateBy, wordsBy}
+use Rattle.unplug.specs.Words.{record_by, records_by, set_by, state_by, words_by}
 
 -- n words from k on and from l on are the same
 pub record Alike (n : ℕ) (f : ℕ → ℕ) (k : ℕ) (g : ℕ → ℕ) (l : ℕ) : Type 0 where
@@ -27,16 +27,16 @@ module _ {n : ℕ} {f g : ℕ → ℕ} {k l : ℕ} (a : Alike n f k g l) where
         ap f p ∙ a.same (d + i) (omega arith) ∙ ap g q;
   }
 
-words-alike : {f g : ℕ → ℕ} (n : ℕ) {k l : ℕ} → Alike n f k g l → wordsBy n f k ≡ wordsBy n g l
-unfolding wordsBy
-words-alike zero a = refl
-words-alike (suc n) a = rw (first a (omega arith), words-alike n (within a 1 n (omega arith)))
+words_alike : {f g : ℕ → ℕ} (n : ℕ) {k l : ℕ} → Alike n f k g l → words_by n f k ≡ words_by n g l
+unfolding words_by
+words_alike zero a = refl
+words_alike (suc n) a = rw (first a (omega arith), words_alike n (within a 1 n (omega arith)))
 
-set-alike : {f g : ℕ → ℕ} {k l : ℕ} → Alike 65 f k g l → setBy f k ≡ setBy g l
-set-alike a = λ i. record { ids = words-alike 64 (front a 64 (omega arith)) i; len = a.same 64 (omega arith) i }
+set_alike : {f g : ℕ → ℕ} {k l : ℕ} → Alike 65 f k g l → set_by f k ≡ set_by g l
+set_alike a = λ i. record { ids = words_alike 64 (front a 64 (omega arith)) i; len = a.same 64 (omega arith) i }
 
-record-alike : {f g : ℕ → ℕ} {k l : ℕ} → Alike 10 f k g l → recordBy f k ≡ recordBy g l
-record-alike a =
+record_alike : {f g : ℕ → ℕ} {k l : ℕ} → Alike 10 f k g l → record_by f k ≡ record_by g l
+record_alike a =
     rw (
       first a (omega arith),
       a.same 1 (omega arith),
@@ -50,22 +50,22 @@ record-alike a =
       a.same 9 (omega arith),
     )
 
-records-alike : {f g : ℕ → ℕ} (n : ℕ) {k l : ℕ} → Alike (10 * n) f k g l → recordsBy n f k ≡ recordsBy n g l
-unfolding recordsBy
-records-alike zero a = refl
-records-alike (suc n) a = rw (record-alike (front a 10 (omega arith)), records-alike n (within a 10 (10 * n) (omega arith)))
+records_alike : {f g : ℕ → ℕ} (n : ℕ) {k l : ℕ} → Alike (10 * n) f k g l → records_by n f k ≡ records_by n g l
+unfolding records_by
+records_alike zero a = refl
+records_alike (suc n) a = rw (record_alike (front a 10 (omega arith)), records_alike n (within a 10 (10 * n) (omega arith)))
 
-pub state-alike : {f g : ℕ → ℕ} {k l : ℕ} → Alike 967 f k g l → stateBy f k ≡ stateBy g l
-state-alike {f} {g} {k} {l} a = λ i.
+pub state_alike : {f g : ℕ → ℕ} {k l : ℕ} → Alike 967 f k g l → state_by f k ≡ state_by g l
+state_alike {f} {g} {k} {l} a = λ i.
     record {
       conf = record {
-        incoming = set-alike (front a 65 (omega arith)) i;
-        outgoing = set-alike (within a 65 65 (omega arith)) i;
-        learners = set-alike (within a 130 65 (omega arith)) i;
-        learners_next = set-alike (within a 195 65 (omega arith)) i;
+        incoming = set_alike (front a 65 (omega arith)) i;
+        outgoing = set_alike (within a 65 65 (omega arith)) i;
+        learners = set_alike (within a 130 65 (omega arith)) i;
+        learners_next = set_alike (within a 195 65 (omega arith)) i;
         auto_leave = eqb (a.same 260 (omega arith) i) 1;
       };
-      ids = set-alike (within a 261 65 (omega arith)) i;
-      records = records-alike 64 (within a 326 640 (omega arith)) i;
+      ids = set_alike (within a 261 65 (omega arith)) i;
+      records = records_alike 64 (within a 326 640 (omega arith)) i;
       max_inflight = a.same 966 (omega arith) i;
     }

@@ -1,21 +1,21 @@
 -- Can this box be unplugged?: document 02, d), asked of a STATE in words (docs/EMBEDDING.md). Assumes nothing.
 use Rattle.std.specs.Prelude.{ℕ, Bool, not, cond, List, eqb, length}
 use Rattle.tracker.specs.declared.Tracker.{Tracker}
-use Rattle.changer.specs.Calls.{unplugOf}
-use Rattle.unplug.specs.Words.{at, stateBy, stateHoldsBy}
+use Rattle.changer.specs.Calls.{unplug_of}
+use Rattle.unplug.specs.Words.{at, state_by, state_holds_by}
 use Rattle.unplug.specs.declared.Told.{Told}
 
 -- the STATE that the words are
-abbrev pub stateIn : List ℕ → Tracker
-stateIn ws = stateBy (at ws) 0
+abbrev pub state_in : List ℕ → Tracker
+state_in ws = state_by (at ws) 0
 
 -- every word of it can be held by its field
-unfoldable pub stateHoldsIn : List ℕ → Bool
-stateHoldsIn ws = stateHoldsBy (at ws) 0
+unfoldable pub state_holds_in : List ℕ → Bool
+state_holds_in ws = state_holds_by (at ws) 0
 
 -- 1: not 967 words; 4: a word that no field can hold; else number and id
-unfoldable pub toldOf : List ℕ → ℕ → Told
-toldOf ws x =
+unfoldable pub told_of : List ℕ → ℕ → Told
+told_of ws x =
     cond (not (eqb (length ws) 967)) (record { returned = 1; number = 0; id = 0 })
-    (cond (not (stateHoldsIn ws)) (record { returned = 4; number = 0; id = 0 })
-    (record { returned = 0; number = (unplugOf (stateIn ws) x).number; id = (unplugOf (stateIn ws) x).id }))
+    (cond (not (state_holds_in ws)) (record { returned = 4; number = 0; id = 0 })
+    (record { returned = 0; number = (unplug_of (state_in ws) x).number; id = (unplug_of (state_in ws) x).id }))

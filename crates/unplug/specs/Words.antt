@@ -15,9 +15,9 @@ abbrev pub at : List ℕ → ℕ → ℕ
 at ws k = get_or ws k 0
 
 -- n words from k on
-unfoldable pub wordsBy : ℕ → (ℕ → ℕ) → ℕ → List ℕ
-wordsBy zero w k = []
-wordsBy (suc n) w k = w k ∷ wordsBy n w (k + 1)
+unfoldable pub words_by : ℕ → (ℕ → ℕ) → ℕ → List ℕ
+words_by zero w k = []
+words_by (suc n) w k = w k ∷ words_by n w (k + 1)
 
 -- ** Blocks
 
@@ -25,30 +25,30 @@ abbrev pub flag : ℕ → Bool
 flag w = eqb w 1
 
 -- SET: 64 ids, then the count
-abbrev pub setBy : (ℕ → ℕ) → ℕ → IdSet
-setBy w k = record { ids = wordsBy 64 w k; len = w (k + 64) }
+abbrev pub set_by : (ℕ → ℕ) → ℕ → IdSet
+set_by w k = record { ids = words_by 64 w k; len = w (k + 64) }
 
 -- CONF: four SETs and the flag
-abbrev pub confBy : (ℕ → ℕ) → ℕ → Configuration
-confBy w k =
+abbrev pub conf_by : (ℕ → ℕ) → ℕ → Configuration
+conf_by w k =
     record {
-      incoming = setBy w k;
-      outgoing = setBy w (k + 65);
-      learners = setBy w (k + 130);
-      learners_next = setBy w (k + 195);
+      incoming = set_by w k;
+      outgoing = set_by w (k + 65);
+      learners = set_by w (k + 130);
+      learners_next = set_by w (k + 195);
       auto_leave = flag (w (k + 260));
     }
 
-abbrev pub stateNamed : ℕ → ProgressState
-stateNamed w = cond (eqb w 0) Probe (cond (eqb w 1) Replicate Snapshot)
+abbrev pub state_named : ℕ → ProgressState
+state_named w = cond (eqb w 0) Probe (cond (eqb w 1) Replicate Snapshot)
 
 -- RECORD
-abbrev pub recordBy : (ℕ → ℕ) → ℕ → Progress
-recordBy w k =
+abbrev pub record_by : (ℕ → ℕ) → ℕ → Progress
+record_by w k =
     record {
       matched = w k;
       next_idx = w (k + 1);
-      state = stateNamed (w (k + 2));
+      state = state_named (w (k + 2));
       paused = flag (w (k + 3));
       pending_snapshot = w (k + 4);
       pending_request_snapshot = w (k + 5);
@@ -58,27 +58,27 @@ recordBy w k =
       committed_index = w (k + 9);
     }
 
-unfoldable pub recordsBy : ℕ → (ℕ → ℕ) → ℕ → List Progress
-recordsBy zero w k = []
-recordsBy (suc n) w k = recordBy w k ∷ recordsBy n w (k + 10)
+unfoldable pub records_by : ℕ → (ℕ → ℕ) → ℕ → List Progress
+records_by zero w k = []
+records_by (suc n) w k = record_by w k ∷ records_by n w (k + 10)
 
 -- STATE: CONF, tracked ids, 64 RECORDs, max_inflight
-abbrev pub stateBy : (ℕ → ℕ) → ℕ → Tracker
-stateBy w k = record { conf = confBy w k; ids = setBy w (k + 261); records = recordsBy 64 w (k + 326); max_inflight = w (k + 966) }
+abbrev pub state_by : (ℕ → ℕ) → ℕ → Tracker
+state_by w k = record { conf = conf_by w k; ids = set_by w (k + 261); records = records_by 64 w (k + 326); max_inflight = w (k + 966) }
 
 -- ** A word that no field can hold
 
 -- n words from k on, `step` apart, are at most m
-unfoldable pub withinBy : ℕ → ℕ → ℕ → (ℕ → ℕ) → ℕ → Bool
-withinBy zero m step w k = true
-withinBy (suc n) m step w k = leb (w k) m && withinBy n m step w (k + step)
+unfoldable pub within_by : ℕ → ℕ → ℕ → (ℕ → ℕ) → ℕ → Bool
+within_by zero m step w k = true
+within_by (suc n) m step w k = leb (w k) m && within_by n m step w (k + step)
 
-abbrev pub confHoldsBy : (ℕ → ℕ) → ℕ → Bool
-confHoldsBy w k = withinBy 1 1 1 w (k + 260)
+abbrev pub conf_holds_by : (ℕ → ℕ) → ℕ → Bool
+conf_holds_by w k = within_by 1 1 1 w (k + 260)
 
 -- of each of 64 records: the state at most 2, paused and recent_active flags
-abbrev pub recordsHoldBy : (ℕ → ℕ) → ℕ → Bool
-recordsHoldBy w k = withinBy 64 2 10 w (k + 2) && withinBy 64 1 10 w (k + 3) && withinBy 64 1 10 w (k + 6)
+abbrev pub records_hold_by : (ℕ → ℕ) → ℕ → Bool
+records_hold_by w k = within_by 64 2 10 w (k + 2) && within_by 64 1 10 w (k + 3) && within_by 64 1 10 w (k + 6)
 
-abbrev pub stateHoldsBy : (ℕ → ℕ) → ℕ → Bool
-stateHoldsBy w k = confHoldsBy w k && recordsHoldBy w (k + 326)
+abbrev pub state_holds_by : (ℕ → ℕ) → ℕ → Bool
+state_holds_by w k = conf_holds_by w k && records_hold_by w (k + 326)

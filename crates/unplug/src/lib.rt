@@ -3,14 +3,14 @@
 // 0 incoming, 65 outgoing, 130 learners, 195 learners_next and 261 tracked; each has 64 ids and then its count.
 ghost use Rattle.std.specs.Prelude.{◌≡◌, true, not, ◌+◌, ◌*◌, ◌≤◌, length};
 ghost use Rattle.rules.specs.Ids.{ascending};
-ghost use Rattle.rules.specs.Unplug.{voterLeft};
-ghost use Rattle.idset.specs.Set.{held, wellFormed};
-ghost use Rattle.tracker.specs.Apply.{verdictOf};
-ghost use Rattle.tracker.specs.Form.{trackerWellFormed};
-ghost use Rattle.changer.specs.Before.{ownCheck};
-ghost use Rattle.changer.specs.Calls.{unplugOf};
-ghost use Rattle.unplug.specs.Words.{at as word_in, setBy, withinBy};
-ghost use Rattle.unplug.specs.Unplugs.{stateIn, stateHoldsIn, toldOf};
+ghost use Rattle.rules.specs.Unplug.{voter_left};
+ghost use Rattle.idset.specs.Set.{held, well_formed};
+ghost use Rattle.tracker.specs.Apply.{verdict_of};
+ghost use Rattle.tracker.specs.Form.{tracker_well_formed};
+ghost use Rattle.changer.specs.Before.{own_check};
+ghost use Rattle.changer.specs.Calls.{unplug_of};
+ghost use Rattle.unplug.specs.Words.{at as word_in, set_by, within_by};
+ghost use Rattle.unplug.specs.Unplugs.{state_in, state_holds_in, told_of};
 
 use idset::IdSet;
 use tracker::{Tracker, Verdict, numbers};
@@ -25,7 +25,7 @@ pub struct Told {
 
 // Number and id. A state that has not 967 words: 1; a word that no field can hold: 4.
 pub fn unplug(state: &[u64], id: u64) -> Told
-    ensures { result ≡ toldOf state.now id }
+    ensures { result ≡ told_of state.now id }
 {
     if state.len() != 967 {
         return Told {
@@ -51,8 +51,8 @@ pub fn unplug(state: &[u64], id: u64) -> Told
 
 // 1; 6; the check; 17.
 fn answer(s: &[u64], id: u64) -> Verdict
-    requires { (length s.now ≡ 967) × (stateHoldsIn s.now ≡ true) }
-    ensures { result ≡ unplugOf (stateIn s.now) id }
+    requires { (length s.now ≡ 967) × (state_holds_in s.now ≡ true) }
+    ensures { result ≡ unplug_of (state_in s.now) id }
 {
     if malformed(s) {
         return verdict(numbers::MALFORMED);
@@ -88,7 +88,7 @@ fn word(s: &[u64], k: usize) -> u64
 
 // Whether every word can be held by its field: the flag, and of each record its state and its two flags.
 fn holds(s: &[u64]) -> bool
-    ensures { result ≡ stateHoldsIn s.now }
+    ensures { result ≡ state_holds_in s.now }
 {
     if !at_most(s, 260, 1, 1, 1) {
         return false;
@@ -105,7 +105,7 @@ fn holds(s: &[u64]) -> bool
 // Whether `n` words from `k` on, `step` apart, are at most `most`.
 fn at_most(s: &[u64], k: usize, n: usize, step: usize, most: u64) -> bool
     requires { k + n * step ≤ 4096 }
-    ensures { result ≡ withinBy n most step (word_in s.now) k }
+    ensures { result ≡ within_by n most step (word_in s.now) k }
 {
     let mut at = k;
     let mut left = n;
@@ -121,8 +121,8 @@ fn at_most(s: &[u64], k: usize, n: usize, step: usize, most: u64) -> bool
 
 // Whether the state is malformed: one of its sets, or a record after the tracked ones that is not unused, which is ten zeros.
 fn malformed(s: &[u64]) -> bool
-    requires { (length s.now ≡ 967) × (stateHoldsIn s.now ≡ true) }
-    ensures { result ≡ not (trackerWellFormed (stateIn s.now)) }
+    requires { (length s.now ≡ 967) × (state_holds_in s.now ≡ true) }
+    ensures { result ≡ not (tracker_well_formed (state_in s.now)) }
 {
     if malformed_at(s, 0) {
         return true;
@@ -146,7 +146,7 @@ fn malformed(s: &[u64]) -> bool
 // Whether the set at `k` is malformed.
 fn malformed_at(s: &[u64], k: usize) -> bool
     requires { k + 64 ≤ length s.now }
-    ensures { result ≡ not (wellFormed (setBy (word_in s.now) k)) }
+    ensures { result ≡ not (well_formed (set_by (word_in s.now) k)) }
 {
     idset::malformed_in(
         &s[k..k + IdSet::CAPACITY],
@@ -157,7 +157,7 @@ fn malformed_at(s: &[u64], k: usize) -> bool
 // The check.
 fn check(s: &[u64]) -> Verdict
     requires { length s.now ≡ 967 }
-    ensures { result ≡ verdictOf (ownCheck (stateIn s.now)) }
+    ensures { result ≡ verdict_of (own_check (state_in s.now)) }
 {
     let incoming = &s[0..64];
     let i = word(s, 64) as usize;
@@ -183,8 +183,8 @@ fn check(s: &[u64]) -> Verdict
 
 // Whether no incoming voter is left without `id`: an ascending set has another id unless it is empty or holds `id` alone. A removal of 0 is skipped.
 fn alone(s: &[u64], id: u64) -> bool
-    requires { (length s.now ≡ 967) × (ascending (held (setBy (word_in s.now) 0)) ≡ true) }
-    ensures { result ≡ not (voterLeft id (held (setBy (word_in s.now) 0))) }
+    requires { (length s.now ≡ 967) × (ascending (held (set_by (word_in s.now) 0)) ≡ true) }
+    ensures { result ≡ not (voter_left id (held (set_by (word_in s.now) 0))) }
 {
     let n = word(s, 64);
     if n == 0 {

@@ -5,8 +5,8 @@ use mathlib.Core.Bool.{Bool, true, false, cond}
 use mathlib.Core.List.{List}
 use native.Mathlib.Omega.{arith}
 use lib.ListN.{length, drop}
-use Rattle.rules.specs.Wire.{Front, cut, num, front, fits, Found, bad, found, judged, varintIn}
-use Rattle.wire.specs.Varints.{placed, varintAt}
+use Rattle.rules.specs.Wire.{Front, cut, num, front, fits, Found, bad, found, judged, varint_in}
+use Rattle.wire.specs.Varints.{placed, varint_at}
 use Rattle.wire.specs.declared.Varint.{Varint}
 use Rattle.rules.proofs.Wire.{front-within}
 use Rattle.wire.proofs.Reading.{fitted}
@@ -29,10 +29,10 @@ placed-found at (num w n) e = by (fits w n) e
     by true e = (n, (refl, refl))
     by false e = absurd (omega arith)
 
-placed-over : (at : ℕ) (f : Front) → ((placed at f).fault ≡ 0 → ⊥) → ((placed at f).fault ≡ 28 → ⊥)
+placed_over : (at : ℕ) (f : Front) → ((placed at f).fault ≡ 0 → ⊥) → ((placed at f).fault ≡ 28 → ⊥)
     → (w n : ℕ) × (((placed at f).fault ≡ 29) × (((placed at f).next ≡ at + n) × ((f ≡ num w n) × (fits w n ≡ false))))
-placed-over at cut h k = absurd (k refl)
-placed-over at (num w n) h k = by (fits w n) refl h
+placed_over at cut h k = absurd (k refl)
+placed_over at (num w n) h k = by (fits w n) refl h
   where
     by : (t : Bool) → fits w n ≡ t → ((fitted t w (at + n)).fault ≡ 0 → ⊥)
         → (v m : ℕ) × (((fitted t w (at + n)).fault ≡ 29) × (((fitted t w (at + n)).next ≡ at + m) × ((num w n ≡ num v m) × (fits v m ≡ false))))
@@ -40,19 +40,19 @@ placed-over at (num w n) h k = by (fits w n) refl h
     by false e h = (w, n, (refl, (refl, (refl, e))))
 
 -- the same of a struct that was read
-pub read-bad : (l : List ℕ) (at : ℕ) {v : Varint} → v ≡ varintAt l at → (v.fault ≡ 0 → ⊥) → varintIn (drop at l) ≡ bad v.fault
-unfolding varintAt varintIn
+pub read-bad : (l : List ℕ) (at : ℕ) {v : Varint} → v ≡ varint_at l at → (v.fault ≡ 0 → ⊥) → varint_in (drop at l) ≡ bad v.fault
+unfolding varint_at varint_in
 read-bad l at e h = rw e (placed-bad at (front (drop at l)) (rw e at h))
 
-pub read_found : (l : List ℕ) (at : ℕ) {v : Varint} → v ≡ varintAt l at → v.fault ≡ 0
-    → (n : ℕ) × ((v.next ≡ at + n) × (varintIn (drop at l) ≡ found v.value n))
-unfolding varintAt varintIn
+pub read_found : (l : List ℕ) (at : ℕ) {v : Varint} → v ≡ varint_at l at → v.fault ≡ 0
+    → (n : ℕ) × ((v.next ≡ at + n) × (varint_in (drop at l) ≡ found v.value n))
+unfolding varint_at varint_in
 read_found l at e h = rw e (placed-found at (front (drop at l)) (rw e at h))
 
-pub read-fault : (l : List ℕ) (at : ℕ) {v : Varint} → v ≡ varintAt l at → (v.fault ≡ 0 → ⊥) → (v.fault ≡ 28 → ⊥)
+pub read-fault : (l : List ℕ) (at : ℕ) {v : Varint} → v ≡ varint_at l at → (v.fault ≡ 0 → ⊥) → (v.fault ≡ 28 → ⊥)
     → (w n : ℕ) × ((v.fault ≡ 29) × ((v.next ≡ at + n) × ((front (drop at l) ≡ num w n) × (fits w n ≡ false))))
-unfolding varintAt
-read-fault l at e h k = rw e (placed-over at (front (drop at l)) (rw e at h) (rw e at k))
+unfolding varint_at
+read-fault l at e h k = rw e (placed_over at (front (drop at l)) (rw e at h) (rw e at k))
 
 -- what is found takes a byte at least, and none but those that are there
 abbrev standing : Found ℕ → Front
@@ -67,6 +67,6 @@ judged-standing (num w m) {v} {n} e = by (fits w m) e
     by true e = ap standing e
     by false e = cc
 
-pub found_within : (l : List ℕ) {v n : ℕ} → varintIn l ≡ found v n → (0 < n) × (n ≤ length l)
-unfolding varintIn
+pub found_within : (l : List ℕ) {v n : ℕ} → varint_in l ≡ found v n → (0 < n) × (n ≤ length l)
+unfolding varint_in
 found_within l e = front-within l (judged-standing (front l) e)

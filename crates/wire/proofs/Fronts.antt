@@ -7,16 +7,16 @@ use native.Mathlib.Numerals.{add-one}
 use native.Mathlib.Omega.{arith}
 use borrow.Author.Tests.{le-ltb, lt-leb}
 use lib.Dec.{leb, ltb}
-use lib.ListN.{length, drop, get_or, drop_of_length-le}
+use lib.ListN.{length, drop, get_or, drop_of_length_le}
 use lib.Seq.{drop-cons}
 use Rattle.rules.proofs.Wire.{front-one}
 use Rattle.rules.specs.Wire.{Front, cut, num, more, front, fits}
 use Rattle.wire.specs.Varints.{past}
 
 -- what stands at place p, by its first byte
-pub front-none : (l : List ℕ) (p : ℕ) → length l ≤ p → front (drop p l) ≡ cut
+pub front_none : (l : List ℕ) (p : ℕ) → length l ≤ p → front (drop p l) ≡ cut
 unfolding front
-front-none l p h = rw (drop_of_length-le l h)
+front_none l p h = rw (drop_of_length_le l h)
 
 pub front-last : (l : List ℕ) (p : ℕ) → p < length l → get_or l p 0 < 128 → front (drop p l) ≡ num (get_or l p 0) 1
 front-last l p h k = ap front (drop-cons l p 0 h) ∙ front-one (get_or l p 0) (drop (suc p) l) k
@@ -30,10 +30,10 @@ pub past_more : (p low : ℕ) (f : Front) → past p (more low f) ≡ past (p + 
 past_more p low cut = refl
 past_more p low (num v n) = omega arith
 
-pub past-zero : (l : List ℕ) (p : ℕ) → past p (front l) ≡ 0 → front l ≡ cut
+pub past_zero : (l : List ℕ) (p : ℕ) → past p (front l) ≡ 0 → front l ≡ cut
 unfolding front
-past-zero [] p e = refl
-past-zero (b ∷ bs) p e = go (past-zero bs (p + 1)) (ltb b 128) e
+past_zero [] p e = refl
+past_zero (b ∷ bs) p e = go (past_zero bs (p + 1)) (ltb b 128) e
   where
     go : (past (p + 1) (front bs) ≡ 0 → front bs ≡ cut) → (t : Bool) → past p (cond t (num b 1) (more (b - 128) (front bs))) ≡ 0
         → cond t (num b 1) (more (b - 128) (front bs)) ≡ cut
@@ -45,27 +45,27 @@ abbrev pub width : Front → ℕ
 width cut = 0
 width (num v n) = n
 
-width-more : (low : ℕ) (f : Front) → width (more low f) ≤ suc (width f)
-width-more low cut = omega arith
-width-more low (num v n) = omega arith
+width_more : (low : ℕ) (f : Front) → width (more low f) ≤ suc (width f)
+width_more low cut = omega arith
+width_more low (num v n) = omega arith
 
-pub width-within : (l : List ℕ) → width (front l) ≤ length l
+pub width_within : (l : List ℕ) → width (front l) ≤ length l
 unfolding front
-width-within [] = omega arith
-width-within (b ∷ bs) = by (width-within bs) (ltb b 128)
+width_within [] = omega arith
+width_within (b ∷ bs) = by (width_within bs) (ltb b 128)
   where
     by : width (front bs) ≤ length bs → (t : Bool) → width (cond t (num b 1) (more (b - 128) (front bs))) ≤ suc (length bs)
     by r true = omega arith
-    by r false = omega (arith, width-more (b - 128) (front bs))
+    by r false = omega (arith, width_more (b - 128) (front bs))
 
 -- whether it fits
 pub fits-long : (v n : ℕ) → 10 < n → fits v n ≡ false
 unfolding fits
 fits-long v n h = rw (lt-leb _ _ h)
 
-pub fits-large : (v n : ℕ) → 2 ^ 64 ≤ v → fits v n ≡ false
+pub fits_large : (v n : ℕ) → 2 ^ 64 ≤ v → fits v n ≡ false
 unfolding fits
-fits-large v n h = go (leb n 10)
+fits_large v n h = go (leb n 10)
   where
     go : (b : Bool) → (b && ltb v (2 ^ 64)) ≡ false
     go true = le-ltb _ _ h

@@ -8,8 +8,8 @@ use native.Mathlib.Omega.{arith}
 use lib.ListN.{length, set}
 use lib.Seq.{sets, length-sets}
 use Rattle.text.specs.Put.{Put, last}
-use Rattle.rules.specs.Wire.{groups, varintOf}
-use Rattle.rules.proofs.Wire.{groups-one, groups-more, groups-less, groups-some}
+use Rattle.rules.specs.Wire.{groups, varint_of}
+use Rattle.rules.proofs.Wire.{groups-one, groups-more, groups_less, groups-some}
 
 -- the bytes that a loop has still to come to, of a number m that is left
 pub record Left (m : ℕ) (bytes : List ℕ) : Type 0 where
@@ -17,8 +17,8 @@ pub record Left (m : ℕ) (bytes : List ℕ) : Type 0 where
   pub enough : m < 128 ^ suc fuel
   pub those : bytes ≡ groups (suc fuel) m
 
-left-all : (n : ℕ) → n < 2 ^ 64 → Left n (varintOf n)
-unfolding varintOf
+left-all : (n : ℕ) → n < 2 ^ 64 → Left n (varint_of n)
+unfolding varint_of
 left-all n h = record { fuel = 9; enough = omega arith; those = refl }
 
 left-some : {m : ℕ} {l : List ℕ} → Left m l → 0 < length l
@@ -33,7 +33,7 @@ left-more {m} {l} s h = by s.fuel s.enough s.those
     by : (k : ℕ) → m < 128 ^ suc k → l ≡ groups (suc k) m → (r : List ℕ) × (Left (m / 128) r × (l ≡ (128 + m % 128) ∷ r))
     by zero e t = absurd (omega arith)
     by (suc k) e t =
-        let d : m / 128 < 128 ^ suc k = groups-less k m e in
+        let d : m / 128 < 128 ^ suc k = groups_less k m e in
         (groups (suc k) (m / 128), (record { fuel = k; enough = d; those = refl }, t ∙ groups-more (suc k) m h))
 
 -- how many bytes a number takes, by its size
@@ -47,34 +47,34 @@ groups-count (suc k) j n a h =
     ap (λ (m : ℕ). length (groups (suc m) n)) e
     ∙ (ap length (groups-more (suc (k + j)) n (omega arith)) ∙ ap suc (groups-count k j (n / 128) (omega arith) (omega arith)))
 
-pub size-one : (n : ℕ) → n < 128 → 1 ≡ length (varintOf n)
-unfolding varintOf
+pub size-one : (n : ℕ) → n < 128 → 1 ≡ length (varint_of n)
+unfolding varint_of
 size-one n h = sym (ap length (groups-one 9 n h))
 
 -- two bytes and more, j less than ten
-pub size-more : (k j n : ℕ) → k + j ≡ 9 → 128 ^ k ≤ n → n < 128 ^ suc k → suc k ≡ length (varintOf n)
-unfolding varintOf
+pub size-more : (k j n : ℕ) → k + j ≡ 9 → 128 ^ k ≤ n → n < 128 ^ suc k → suc k ≡ length (varint_of n)
+unfolding varint_of
 size-more k j n e a h = sym (ap (λ (m : ℕ). length (groups (suc m) n)) (sym e) ∙ groups-count k j n a h)
 
 -- the loop that puts the bytes of n has come to place p
 pub record Putting (old : List ℕ) (at n : ℕ) (out : List ℕ) (p m : ℕ) : Type 0 where
   pub rest : List ℕ
   pub left : Left m rest
-  pub bytes : sets out p rest ≡ sets old at (varintOf n)
-  pub end : p + length rest ≡ at + length (varintOf n)
+  pub bytes : sets out p rest ≡ sets old at (varint_of n)
+  pub end : p + length rest ≡ at + length (varint_of n)
 
-pub putting-start : {old : List ℕ} {at n : ℕ} → n < 2 ^ 64 → Putting old at n old at n
-putting-start {old} {at} {n} h = record { rest = varintOf n; left = left-all n h; bytes = refl; end = refl }
+pub putting_start : {old : List ℕ} {at n : ℕ} → n < 2 ^ 64 → Putting old at n old at n
+putting_start {old} {at} {n} h = record { rest = varint_of n; left = left-all n h; bytes = refl; end = refl }
 
 module _ {old : List ℕ} {at n : ℕ} {out : List ℕ} {p m : ℕ} (s : Putting old at n out p m) where
-  pub putting-length : length out ≡ length old
-  putting-length = sym (length-sets out p s.rest) ∙ ap length s.bytes ∙ length-sets old at (varintOf n)
+  pub putting_length : length out ≡ length old
+  putting_length = sym (length-sets out p s.rest) ∙ ap length s.bytes ∙ length-sets old at (varint_of n)
 
-  pub putting-room : at + length (varintOf n) ≤ length old → p < length out
-  putting-room h = omega (arith, s.end, left-some s.left, putting-length)
+  pub putting_room : at + length (varint_of n) ≤ length old → p < length out
+  putting_room h = omega (arith, s.end, left-some s.left, putting_length)
 
-  pub putting-next : 128 ≤ m → Putting old at n (set out p (128 + m % 128)) (p + 1) (m / 128)
-  putting-next h =
+  pub putting_next : 128 ≤ m → Putting old at n (set out p (128 + m % 128)) (p + 1) (m / 128)
+  putting_next h =
       let t = left-more s.left h in
       record {
         rest = t.0;
@@ -83,8 +83,8 @@ module _ {old : List ℕ} {at n : ℕ} {out : List ℕ} {p m : ℕ} (s : Putting
         end = omega (arith, s.end, ap length t.1.1);
       }
 
-  pub putting-last : m < 128 → at + length (varintOf n) ≤ last → Put old at (varintOf n) (set out p m) (p + 1)
-  putting-last h k =
+  pub putting_last : m < 128 → at + length (varint_of n) ≤ last → Put old at (varint_of n) (set out p m) (p + 1)
+  putting_last h k =
       let e : s.rest ≡ m ∷ [] = left_one s.left h in
       record {
         bytes = rw e at s.bytes;

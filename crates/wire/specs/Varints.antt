@@ -8,16 +8,16 @@ abbrev pub placed : ℕ → Front → Varint
 placed at cut = record { fault = 28; value = 0; next = at }
 placed at (num v n) = cond (fits v n) (record { fault = 0; value = v; next = at + n }) (record { fault = 29; value = 0; next = at + n })
 
-unfoldable pub varintAt : List ℕ → ℕ → Varint
-varintAt l at = placed at (front (drop at l))
+unfoldable pub varint_at : List ℕ → ℕ → Varint
+varint_at l at = placed at (front (drop at l))
 
 -- nine bytes, worth v, before what stands there
 abbrev pub after : ℕ → Front → Front
 after v cut = cut
 after v (num w n) = num (v + 2 ^ 63 * w) (9 + n)
 
-unfoldable pub tenthAt : List ℕ → ℕ → Varint
-tenthAt l v = placed 0 (after v (front (drop 9 l)))
+unfoldable pub tenth_at : List ℕ → ℕ → Varint
+tenth_at l v = placed 0 (after v (front (drop 9 l)))
 
 -- the place after what stands at `at`; 0 where nothing ends
 abbrev pub past : ℕ → Front → ℕ

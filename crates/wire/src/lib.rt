@@ -1,9 +1,9 @@
 // Varints, read from a slice of bytes and put into one: crates/rules/specs/Wire.antt. internal: what is put needs room, which the writer of crate
 // confstate has counted before.
 ghost use Rattle.std.specs.Prelude.{◌≡◌, ◌+◌, ◌≤◌, ◌<◌, ◌^◌, length};
-ghost use Rattle.rules.specs.Wire.{varintOf};
+ghost use Rattle.rules.specs.Wire.{varint_of};
 ghost use Rattle.text.specs.Put.{Put};
-ghost use Rattle.wire.specs.Varints.{varintAt, tenthAt, end_of};
+ghost use Rattle.wire.specs.Varints.{varint_at, tenth_at, end_of};
 
 // What stands at a place: 0 and a number; or 28, cut short; or 29, over ten bytes or 64 bits. `next` is the place after it, of a cut one its own.
 #[derive(Drop)]
@@ -16,7 +16,7 @@ pub struct Varint {
 // The varint at place `at`: those of one byte and of two first, which most are. It has two calls of `read_long`, since the compiler would put a function that is
 // called once into its caller, and this one is to be short.
 pub fn read_varint(bytes: &[u8], at: usize) -> Varint
-    ensures { result ≡ varintAt bytes.now at }
+    ensures { result ≡ varint_at bytes.now at }
 {
     if bytes.len() <= at {
         return Varint {
@@ -50,7 +50,7 @@ pub fn read_varint(bytes: &[u8], at: usize) -> Varint
 // The same, of any length.
 fn read_long(bytes: &[u8], at: usize) -> Varint
     requires { at ≤ length bytes.now }
-    ensures { result ≡ varintAt bytes.now at }
+    ensures { result ≡ varint_at bytes.now at }
 {
     let v = front(&bytes[at..]);
     Varint {
@@ -62,7 +62,7 @@ fn read_long(bytes: &[u8], at: usize) -> Varint
 
 // The varint at the front, byte after byte.
 fn front(bytes: &[u8]) -> Varint
-    ensures { result ≡ varintAt bytes.now 0 }
+    ensures { result ≡ varint_at bytes.now 0 }
 {
     let mut value: u64 = 0;
     let mut unit: u64 = 1;
@@ -93,7 +93,7 @@ fn front(bytes: &[u8]) -> Varint
 // The tenth byte, after nine that are worth `value`: 0 or 1, or the number is over 64 bits.
 fn tenth(bytes: &[u8], value: u64) -> Varint
     requires { (9 ≤ length bytes.now) × (value < 2 ^ 63) }
-    ensures { result ≡ tenthAt bytes.now value }
+    ensures { result ≡ tenth_at bytes.now value }
 {
     if bytes.len() <= 9 {
         return Varint {
@@ -142,7 +142,7 @@ fn end_of(bytes: &[u8], at: usize) -> usize
 
 // How many bytes the number takes.
 pub fn size(n: u64) -> usize
-    ensures { result ≡ length (varintOf n) }
+    ensures { result ≡ length (varint_of n) }
 {
     if n < 128 {
         return 1;
@@ -156,7 +156,7 @@ pub fn size(n: u64) -> usize
 // Of a number of two to five bytes.
 fn size_to_5(n: u64) -> usize
     requires { (128 ≤ n) × (n < 2 ^ 35) }
-    ensures { result ≡ length (varintOf n) }
+    ensures { result ≡ length (varint_of n) }
 {
     if n < 16384 {
         return 2;
@@ -173,7 +173,7 @@ fn size_to_5(n: u64) -> usize
 // Of a number of six to ten bytes.
 fn size_to_10(n: u64) -> usize
     requires { 2 ^ 35 ≤ n }
-    ensures { result ≡ length (varintOf n) }
+    ensures { result ≡ length (varint_of n) }
 {
     if n < 4398046511104 {
         return 6;
@@ -192,8 +192,8 @@ fn size_to_10(n: u64) -> usize
 
 // The number put at place `at`; the place after it.
 pub fn put_varint(out: &mut [u8], at: usize, n: u64) -> usize
-    requires { at + length (varintOf n) ≤ length out.old }
-    ensures { Put out.old at (varintOf n) out.new result }
+    requires { at + length (varint_of n) ≤ length out.old }
+    ensures { Put out.old at (varint_of n) out.new result }
 {
     let mut p = at;
     let mut m = n;

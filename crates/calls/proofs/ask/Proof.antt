@@ -2,9 +2,9 @@
 use mathlib.Core.Path.{◌∙◌}
 use native.Mathlib.Omega.{arith}
 use borrow.Author.Rules.{rules}
-use Rattle.changer.specs.Calls.{simpleAnswer, enterAnswer}
+use Rattle.changer.specs.Calls.{simple_answer, enter_answer}
 use Rattle.unplug.specs.Words.{flag}
-use Rattle.calls.proofs.WriteCalls.{ids-fit, kinds-fit, ids-taken, kinds-taken, ids-in, kinds-in, ask-leave, ask-simple, ask-enter}
+use Rattle.calls.proofs.WriteCalls.{ids_fit, kinds_fit, ids-taken, kinds-taken, ids_in_lem, kinds_in_lem, ask-leave, ask-simple, ask-enter}
 use Rattle.calls.proofs.ask.Statement.{statement}
 use Rattle.calls.proofs.ask.Tie as tie
 
@@ -24,16 +24,16 @@ least-requires-2 : tie.Need-least-requires-2
 least-requires-2 c κs = search rules
 
 array-share-prefix-ids : tie.Need-array-share-prefix-ids
-array-share-prefix-ids c = ids-fit c.before.before.before.before.before.before.before.before.args.s.now c.before.before.before.before.before.change-list.ensures (omega (arith, c.before.before.least.ensures))
+array-share-prefix-ids c = ids_fit c.before.before.before.before.before.before.before.before.args.s.now c.before.before.before.before.before.change_list.ensures (omega (arith, c.before.before.least.ensures))
 
 slice-aggregate-simple : tie.Need-slice-aggregate-simple
-slice-aggregate-simple c = ids-taken c.before.before.before.before.before.before.before.before.before.args.s.now c.before.before.before.before.before.before.change-list.ensures (omega (arith, c.before.before.before.least.ensures))
+slice-aggregate-simple c = ids-taken c.before.before.before.before.before.before.before.before.before.args.s.now c.before.before.before.before.before.before.change_list.ensures (omega (arith, c.before.before.before.least.ensures))
 
 array-share-prefix-kinds : tie.Need-array-share-prefix-kinds
-array-share-prefix-kinds c = kinds-fit c.before.before.before.before.before.before.before.before.before.args.s.now c.before.before.before.before.before.before.change-list.ensures (omega (arith, c.before.before.least2.ensures))
+array-share-prefix-kinds c = kinds_fit c.before.before.before.before.before.before.before.before.before.args.s.now c.before.before.before.before.before.before.change_list.ensures (omega (arith, c.before.before.least2.ensures))
 
 slice-aggregate-simple-2 : tie.Need-slice-aggregate-simple-2
-slice-aggregate-simple-2 c = kinds-taken c.before.before.before.before.before.before.before.before.before.before.args.s.now c.before.before.before.before.before.before.before.change-list.ensures (omega (arith, c.before.before.before.least2.ensures))
+slice-aggregate-simple-2 c = kinds-taken c.before.before.before.before.before.before.before.before.before.before.args.s.now c.before.before.before.before.before.before.before.change_list.ensures (omega (arith, c.before.before.before.least2.ensures))
 
 simple-requires : tie.Need-simple-requires
 simple-requires c κs = search rules
@@ -42,25 +42,25 @@ returns-2 : tie.Need-returns-2
 returns-2 c =
     let s = c.before.before.before.before.before.before.before.before.before.before.before.args.s.now in
     let t = c.before.before.before.before.before.before.before.before.before.before.before.args.t in
-    let l = c.before.before.before.before.before.before.before.before.change-list.ensures in
-    let a = ids-in s l c.before.before.before.before.before.least.ensures in
-    let b = kinds-in s l c.before.before.before.before.least2.ensures in
-    c.simple.ensures ∙ (λ i. simpleAnswer t (a i) (b i)) ∙ ask-simple s c.before.before.before.before.before.before.before.before.before.before.before.args.call t c.before.before.before.before.before.before.before.before.before.if1.false c.before.before.before.if2.true
+    let l = c.before.before.before.before.before.before.before.before.change_list.ensures in
+    let a = ids_in_lem s l c.before.before.before.before.before.least.ensures in
+    let b = kinds_in_lem s l c.before.before.before.before.least2.ensures in
+    c.simple.ensures ∙ (λ i. simple_answer t (a i) (b i)) ∙ ask-simple s c.before.before.before.before.before.before.before.before.before.before.before.args.call t c.before.before.before.before.before.before.before.before.before.if1.false c.before.before.before.if2.true
 
 word-requires : tie.Need-word-requires
 word-requires c κs = search rules
 
 array-share-prefix-ids-2 : tie.Need-array-share-prefix-ids-2
-array-share-prefix-ids-2 c = ids-fit c.before.before.before.before.before.before.before.before.before.args.s.now c.before.before.before.before.before.before.change-list.ensures (omega (arith, c.before.before.before.least.ensures))
+array-share-prefix-ids-2 c = ids_fit c.before.before.before.before.before.before.before.before.before.args.s.now c.before.before.before.before.before.before.change_list.ensures (omega (arith, c.before.before.before.least.ensures))
 
 slice-aggregate-enter-joint : tie.Need-slice-aggregate-enter-joint
-slice-aggregate-enter-joint c = ids-taken c.before.before.before.before.before.before.before.before.before.before.args.s.now c.before.before.before.before.before.before.before.change-list.ensures (omega (arith, c.before.before.before.before.least.ensures))
+slice-aggregate-enter-joint c = ids-taken c.before.before.before.before.before.before.before.before.before.before.args.s.now c.before.before.before.before.before.before.before.change_list.ensures (omega (arith, c.before.before.before.before.least.ensures))
 
 array-share-prefix-kinds-2 : tie.Need-array-share-prefix-kinds-2
-array-share-prefix-kinds-2 c = kinds-fit c.before.before.before.before.before.before.before.before.before.before.args.s.now c.before.before.before.before.before.before.before.change-list.ensures (omega (arith, c.before.before.before.least2.ensures))
+array-share-prefix-kinds-2 c = kinds_fit c.before.before.before.before.before.before.before.before.before.before.args.s.now c.before.before.before.before.before.before.before.change_list.ensures (omega (arith, c.before.before.before.least2.ensures))
 
 slice-aggregate-enter-joint-2 : tie.Need-slice-aggregate-enter-joint-2
-slice-aggregate-enter-joint-2 c = kinds-taken c.before.before.before.before.before.before.before.before.before.before.before.args.s.now c.before.before.before.before.before.before.before.before.change-list.ensures (omega (arith, c.before.before.before.before.least2.ensures))
+slice-aggregate-enter-joint-2 c = kinds-taken c.before.before.before.before.before.before.before.before.before.before.before.args.s.now c.before.before.before.before.before.before.before.before.change_list.ensures (omega (arith, c.before.before.before.before.least2.ensures))
 
 enter-joint-requires : tie.Need-enter-joint-requires
 enter-joint-requires c κs = search rules
@@ -69,11 +69,11 @@ returns-3 : tie.Need-returns-3
 returns-3 c =
     let s = c.before.before.before.before.before.before.before.before.before.before.before.before.args.s.now in
     let t = c.before.before.before.before.before.before.before.before.before.before.before.before.args.t in
-    let l = c.before.before.before.before.before.before.before.before.before.change-list.ensures in
+    let l = c.before.before.before.before.before.before.before.before.before.change_list.ensures in
     let w = c.before.before.before.word.ensures in
-    let a = ids-in s l c.before.before.before.before.before.before.least.ensures in
-    let b = kinds-in s l c.before.before.before.before.before.least2.ensures in
-    c.enter-joint.ensures ∙ (λ i. enterAnswer t (flag (w i)) (a i) (b i)) ∙ ask-enter s c.before.before.before.before.before.before.before.before.before.before.before.before.args.call t c.before.before.before.before.before.before.before.before.before.before.if1.false c.before.before.before.before.if2.false
+    let a = ids_in_lem s l c.before.before.before.before.before.before.least.ensures in
+    let b = kinds_in_lem s l c.before.before.before.before.before.least2.ensures in
+    c.enter-joint.ensures ∙ (λ i. enter_answer t (flag (w i)) (a i) (b i)) ∙ ask-enter s c.before.before.before.before.before.before.before.before.before.before.before.before.args.call t c.before.before.before.before.before.before.before.before.before.before.if1.false c.before.before.before.before.if2.false
 
 pub ask-spec : {M : Type 1} → statement M
 ask-spec =

@@ -1,8 +1,8 @@
 -- `calls::dimecandle_call` meets its contract. Assumes nothing.
 use native.Mathlib.Omega.{arith}
 use borrow.Author.Rules.{rules}
-use Rattle.unplug.proofs.Within.{test-no, test-yes}
-use Rattle.calls.proofs.TypedRows.{reply-typed}
+use Rattle.unplug.proofs.Within.{test_no, test_yes}
+use Rattle.calls.proofs.TypedRows.{reply_typed}
 use Rattle.calls.proofs.WriteCalls.{call_length, call-room, call-unknown, call-held, call-done}
 use Rattle.calls.proofs.dimecandle_call.Statement.{statement}
 use Rattle.calls.proofs.dimecandle_call.Tie as tie
@@ -23,7 +23,7 @@ holds-requires : tie.Need-holds-requires
 holds-requires c κs = search rules
 
 returns-4 : tie.Need-returns-4
-returns-4 c = call-held c.before.before.before.before.before.before.before.before.args.request.now c.before.before.before.before.before.before.before.before.args.reply.now c.before.before.before.before.before.if1.false c.before.before.before.before.if2.false (omega (arith, c.before.before.before.word.ensures, c.before.before.if3.false)) (test-no c.before.holds.ensures c.if4.true)
+returns-4 c = call-held c.before.before.before.before.before.before.before.before.args.request.now c.before.before.before.before.before.before.before.before.args.reply.now c.before.before.before.before.before.if1.false c.before.before.before.before.if2.false (omega (arith, c.before.before.before.word.ensures, c.before.before.if3.false)) (test_no c.before.holds.ensures c.if4.true)
 
 reply-to-requires : tie.Need-reply-to-requires
 reply-to-requires c κs = search rules
@@ -35,7 +35,7 @@ same_length : tie.Need-same-length
 same_length c = search rules
 
 returns-5 : tie.Need-returns-5
-returns-5 c = call-done c.before.before.before.before.before.before.before.before.before.before.before.before.before.args.request.now c.before.before.before.before.before.before.before.before.before.before.before.before.before.args.reply.now c.before.before.before.before.before.before.before.before.before.before.if1.false c.before.before.before.before.before.before.before.before.before.if2.false (omega (arith, c.before.before.before.before.before.before.before.before.word.ensures, c.before.before.before.before.before.before.before.if3.false)) (test-yes c.before.before.before.before.before.before.holds.ensures c.before.before.before.before.before.if4.false) (omega (arith, c.before.before.before.before.before.before.before.before.before.before.before.before.before.well-formed)) c.before.before.before.reply-to.result (reply-typed c.before.before.before.reply-to.result c.before.before.before.reply-to.type-inv) c.before.before.before.reply-to.ensures c.before.before.put-reply.ensures
+returns-5 c = call-done c.before.before.before.before.before.before.before.before.before.before.before.before.before.args.request.now c.before.before.before.before.before.before.before.before.before.before.before.before.before.args.reply.now c.before.before.before.before.before.before.before.before.before.before.if1.false c.before.before.before.before.before.before.before.before.before.if2.false (omega (arith, c.before.before.before.before.before.before.before.before.word.ensures, c.before.before.before.before.before.before.before.if3.false)) (test_yes c.before.before.before.before.before.before.holds.ensures c.before.before.before.before.before.if4.false) (omega (arith, c.before.before.before.before.before.before.before.before.before.before.before.before.before.well_formed_lem)) c.before.before.before.reply-to.result (reply_typed c.before.before.before.reply-to.result c.before.before.before.reply-to.type-inv) c.before.before.before.reply-to.ensures c.before.before.put-reply.ensures
 
 pub dimecandle-call-spec : {M : Type 1} → statement M
 dimecandle-call-spec =

@@ -4,16 +4,16 @@ use mathlib.Core.Path.{ap, sym, ◌∙◌}
 use mathlib.Core.Bool.{Bool}
 use native.Mathlib.Omega.{arith}
 use borrow.Author.Rules.{rules}
-use Rattle.tracker.specs.Apply.{applyOf}
+use Rattle.tracker.specs.Apply.{apply_of}
 use Rattle.tracker.specs.ConfStates.{written_of}
 use Rattle.tracker.specs.declared.Tracker.{Tracker}
 use Rattle.tracker.specs.declared.Outcome.{Outcome}
 use Rattle.tracker.specs.declared.Verdict.{Verdict}
-use Rattle.invariants.specs.Check.{checkOf, inOrderOf}
+use Rattle.invariants.specs.Check.{check_of, in_order_of}
 use Rattle.changer.specs.declared.Answer.{Answer}
 use Rattle.calls.specs.Layout.{word}
-use Rattle.calls.specs.Call.{reply, noLog, noLists, fromVerdict, fromAnswer, fromOutcome, fromWritten, askIn, restoredIn}
-use Rattle.calls.proofs.WriteCalls.{reply-check, reply-order, reply-ask, reply-apply, reply-write, reply-restored}
+use Rattle.calls.specs.Call.{reply, no_log, no_lists, from_verdict, from_answer, from_outcome, from_written, ask_in, restored_in}
+use Rattle.calls.proofs.WriteCalls.{reply-check, reply_order, reply-ask, reply-apply, reply_write, reply-restored}
 use Rattle.calls.proofs.reply_to.Statement.{statement}
 use Rattle.calls.proofs.reply_to.Tie as tie
 
@@ -35,7 +35,7 @@ returns c =
     let t = c.before.before.before.state.ensures in
     let w = c.before.before.before.before.word.ensures in
     let v = c.before.check.ensures in
-    c.from-verdict.ensures ∙ ap (λ (x : Verdict). fromVerdict c.before.before.before.state.result x) v ∙ ap (λ (u : Tracker). fromVerdict u (checkOf u)) t ∙ reply-check s (sym w ∙ c.before.before.if1.true)
+    c.from-verdict.ensures ∙ ap (λ (x : Verdict). from_verdict c.before.before.before.state.result x) v ∙ ap (λ (u : Tracker). from_verdict u (check_of u)) t ∙ reply-check s (sym w ∙ c.before.before.if1.true)
 
 in-order-requires : tie.Need-in-order-requires
 in-order-requires c κs = search rules
@@ -49,7 +49,7 @@ returns-2 c =
     let t = c.before.before.before.before.state.ensures in
     let w = c.before.before.before.before.before.word.ensures in
     let v = c.before.in_order.ensures in
-    c.from-yes.ensures ∙ ap (λ (x : Bool). reply 0 0 x c.before.before.before.before.state.result noLog noLists 0) v ∙ ap (λ (u : Tracker). reply 0 0 (inOrderOf u) u noLog noLists 0) t ∙ reply-order s (λ e. c.before.before.before.if1.false (w ∙ e)) (sym w ∙ c.before.before.if2.true)
+    c.from-yes.ensures ∙ ap (λ (x : Bool). reply 0 0 x c.before.before.before.before.state.result no_log no_lists 0) v ∙ ap (λ (u : Tracker). reply 0 0 (in_order_of u) u no_log no_lists 0) t ∙ reply_order s (λ e. c.before.before.before.if1.false (w ∙ e)) (sym w ∙ c.before.before.if2.true)
 
 ask-requires : tie.Need-ask-requires
 ask-requires c κs = search rules
@@ -64,7 +64,7 @@ returns-3 c =
     let w = c.before.before.before.before.before.before.word.ensures in
     let a = c.before.ask.ensures in
     let less : word s 0 < 5 = omega (arith, w, c.before.before.if3.true) in
-    c.from-answer.ensures ∙ ap (λ (x : Answer). fromAnswer c.before.before.before.before.before.state.result x) a ∙ (λ i. fromAnswer (t i) (askIn s (w i) (t i))) ∙ reply-ask s (λ e. c.before.before.before.before.if1.false (w ∙ e)) (λ e. c.before.before.before.if2.false (w ∙ e)) less
+    c.from-answer.ensures ∙ ap (λ (x : Answer). from_answer c.before.before.before.before.before.state.result x) a ∙ (λ i. from_answer (t i) (ask_in s (w i) (t i))) ∙ reply-ask s (λ e. c.before.before.before.before.if1.false (w ∙ e)) (λ e. c.before.before.before.if2.false (w ∙ e)) less
 
 conf-requires : tie.Need-conf-requires
 conf-requires c κs = search rules
@@ -91,7 +91,7 @@ returns-4 c =
     let g = c.before.before.before.log.ensures in
     let n = c.before.before.word2.ensures in
     let more : 5 ≤ word s 0 = omega (arith, w, c.before.before.before.before.before.before.if3.false) in
-    c.from-outcome.ensures ∙ ap (λ (x : Outcome). fromOutcome x) a ∙ (λ i. fromOutcome (applyOf (t i) (f i) (g i) (n i))) ∙ reply-apply s (λ e. c.before.before.before.before.before.before.before.before.if1.false (w ∙ e)) more (sym w ∙ c.before.before.before.before.before.if4.true)
+    c.from-outcome.ensures ∙ ap (λ (x : Outcome). from_outcome x) a ∙ (λ i. from_outcome (apply_of (t i) (f i) (g i) (n i))) ∙ reply-apply s (λ e. c.before.before.before.before.before.before.before.before.if1.false (w ∙ e)) more (sym w ∙ c.before.before.before.before.before.if4.true)
 
 from-written-requires : tie.Need-from-written-requires
 from-written-requires c κs = search rules
@@ -102,7 +102,7 @@ returns-5 c =
     let t = c.before.before.before.before.before.before.state.ensures in
     let w = c.before.before.before.before.before.before.before.word.ensures in
     let more : 5 ≤ word s 0 = omega (arith, w, c.before.before.before.if3.false) in
-    c.from-written.ensures ∙ ap (λ (u : Tracker). fromWritten u (written_of u)) t ∙ reply-write s (λ e. c.before.before.before.before.before.if1.false (w ∙ e)) more (sym w ∙ c.before.if5.true)
+    c.from-written.ensures ∙ ap (λ (u : Tracker). from_written u (written_of u)) t ∙ reply_write s (λ e. c.before.before.before.before.before.if1.false (w ∙ e)) more (sym w ∙ c.before.if5.true)
 
 restored-requires : tie.Need-restored-requires
 restored-requires c κs = search rules
@@ -116,7 +116,7 @@ returns-6 c =
     let w = c.before.before.before.before.before.before.before.before.word.ensures in
     let a = c.before.restored.ensures in
     let more : 5 ≤ word s 0 = omega (arith, w, c.before.before.before.before.if3.false) in
-    c.from-outcome2.ensures ∙ ap (λ (x : Outcome). fromOutcome x) a ∙ (λ i. fromOutcome (restoredIn s (w i))) ∙ reply-restored s (λ e. c.before.before.before.before.before.before.if1.false (w ∙ e)) more (λ e. c.before.before.before.if4.false (w ∙ e)) (λ e. c.before.before.if5.false (w ∙ e))
+    c.from-outcome2.ensures ∙ ap (λ (x : Outcome). from_outcome x) a ∙ (λ i. from_outcome (restored_in s (w i))) ∙ reply-restored s (λ e. c.before.before.before.before.before.before.if1.false (w ∙ e)) more (λ e. c.before.before.before.if4.false (w ∙ e)) (λ e. c.before.before.if5.false (w ∙ e))
 
 pub reply-to-spec : {M : Type 1} → statement M
 reply-to-spec =

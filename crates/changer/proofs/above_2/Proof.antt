@@ -3,7 +3,7 @@
 use borrow.Author.Rules.{rules}
 use Prim.Native.Nat.{◌-◌}
 use lib.ListN.{length}
-use Rattle.changer.proofs.Above.{Passing, pass-end, pass-above, pass-next}
+use Rattle.changer.proofs.Above.{Passing, pass_end, pass_above, pass_next}
 use Rattle.changer.proofs.above_2.Statement.{statement}
 use Rattle.changer.proofs.above_2.Tie as tie
 
@@ -20,7 +20,7 @@ shared-slice-read-if1 : tie.Need-shared-slice-read-if1 invariant-loop decreases-
 shared-slice-read-if1 c = search rules
 
 returns : tie.Need-returns invariant-loop decreases-loop
-returns c = search (rules, pass-above)
+returns c = search (rules, pass_above)
 
 add-i : tie.Need-overflow-add-i invariant-loop decreases-loop
 add-i c = search rules
@@ -29,10 +29,10 @@ loop-less : tie.Need-loop-smaller invariant-loop decreases-loop
 loop-less c = search rules
 
 loop-again : tie.Need-loop-preserved invariant-loop decreases-loop
-loop-again c = search (rules, pass-next)
+loop-again c = search (rules, pass_next)
 
 returns-2 : tie.Need-returns-2 invariant-loop decreases-loop
-returns-2 c = search (rules, pass-end)
+returns-2 c = search (rules, pass_end)
 
 pub above-2-spec : {M : Type 1} → statement M
 above-2-spec =

@@ -1,6 +1,6 @@
 -- `changer::check_again` meets its contract: what is answered, or the fault of the check again. Assumes nothing.
 use borrow.Author.Rules.{rules}
-use Rattle.changer.proofs.Called.{again-stops, again-goes}
+use Rattle.changer.proofs.Called.{again_stops, again_goes}
 use Rattle.changer.proofs.check_again.Statement.{statement}
 use Rattle.changer.proofs.check_again.Tie as tie
 
@@ -14,10 +14,10 @@ refused-requires : tie.Need-refused-requires
 refused-requires c κs = search rules
 
 returns : tie.Need-returns
-returns c = search (rules, again-stops)
+returns c = search (rules, again_stops)
 
 returns-2 : tie.Need-returns-2
-returns-2 c = search (rules, again-goes)
+returns-2 c = search (rules, again_goes)
 
 pub check-again-spec : {M : Type 1} → statement M
 check-again-spec =

@@ -1,6 +1,6 @@
 -- `changer::enter_joint` meets its contract, at each place where it returns. Assumes nothing.
 use borrow.Author.Rules.{rules}
-use Rattle.changer.proofs.Called.{enter-stops, enter-list, enter-again}
+use Rattle.changer.proofs.Called.{enter-stops, enter_list, enter_again}
 use Rattle.changer.proofs.enter_joint.Statement.{statement}
 use Rattle.changer.proofs.enter_joint.Tie as tie
 
@@ -23,13 +23,13 @@ refused-requires-2 : tie.Need-refused-requires-2
 refused-requires-2 c κs = search rules
 
 returns-2 : tie.Need-returns-2
-returns-2 c = search (rules, enter-list)
+returns-2 c = search (rules, enter_list)
 
 check-again-requires : tie.Need-check-again-requires
 check-again-requires c κs = search rules
 
 returns-3 : tie.Need-returns-3
-returns-3 c = search (rules, enter-again)
+returns-3 c = search (rules, enter_again)
 
 pub enter-joint-spec : {M : Type 1} → statement M
 enter-joint-spec =

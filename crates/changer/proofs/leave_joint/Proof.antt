@@ -1,6 +1,6 @@
 -- `changer::leave_joint` meets its contract, at each place where it returns. Assumes nothing.
 use borrow.Author.Rules.{rules}
-use Rattle.changer.proofs.Called.{leave-stops, leave-again}
+use Rattle.changer.proofs.Called.{leave-stops, leave_again}
 use Rattle.changer.proofs.leave_joint.Statement.{statement}
 use Rattle.changer.proofs.leave_joint.Tie as tie
 
@@ -20,7 +20,7 @@ check-again-requires : tie.Need-check-again-requires
 check-again-requires c κs = search rules
 
 returns-2 : tie.Need-returns-2
-returns-2 c = search (rules, leave-again)
+returns-2 c = search (rules, leave_again)
 
 pub leave-joint-spec : {M : Type 1} → statement M
 leave-joint-spec =

@@ -1,8 +1,8 @@
 -- `changer::may_enter` meets its contract: the first test that refuses, or none. Assumes nothing.
 use borrow.Author.Rules.{rules}
-use Rattle.invariants.proofs.Faults.{then-stops, then-goes}
+use Rattle.invariants.proofs.Faults.{then_stops, then_goes}
 use Rattle.invariants.proofs.Parts.{check-numbered}
-use Rattle.changer.proofs.Tests.{ill-formed, unreadable, single-refuses, single-goes, last-refuses, last-passes}
+use Rattle.changer.proofs.Tests.{ill_formed, unreadable, single-refuses, single_goes, last-refuses, last-passes}
 use Rattle.changer.proofs.may_enter.Statement.{statement}
 use Rattle.changer.proofs.may_enter.Tie as tie
 
@@ -13,7 +13,7 @@ verdict-requires : tie.Need-verdict-requires
 verdict-requires c κs = search rules
 
 returns : tie.Need-returns
-returns c = search (rules, ill-formed)
+returns c = search (rules, ill_formed)
 
 readable-requires : tie.Need-readable-requires
 readable-requires c κs = search rules
@@ -34,7 +34,7 @@ check-invariants-requires : tie.Need-check-invariants-requires
 check-invariants-requires c κs = search rules
 
 returns-4 : tie.Need-returns-4
-returns-4 c = search (rules, single-goes, then-stops)
+returns-4 c = search (rules, single_goes, then_stops)
 
 is-empty-requires : tie.Need-is-empty-requires
 is-empty-requires c κs = search rules
@@ -43,13 +43,13 @@ verdict-requires-3 : tie.Need-verdict-requires-3
 verdict-requires-3 c κs = search rules
 
 returns-5 : tie.Need-returns-5
-returns-5 c = search (rules, single-goes, then-goes, check-numbered, last-refuses)
+returns-5 c = search (rules, single_goes, then_goes, check-numbered, last-refuses)
 
 verdict-requires-4 : tie.Need-verdict-requires-4
 verdict-requires-4 c κs = search rules
 
 returns-6 : tie.Need-returns-6
-returns-6 c = search (rules, single-goes, then-goes, check-numbered, last-passes)
+returns-6 c = search (rules, single_goes, then_goes, check-numbered, last-passes)
 
 pub may-enter-spec : {M : Type 1} → statement M
 may-enter-spec =

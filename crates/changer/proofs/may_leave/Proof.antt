@@ -1,6 +1,6 @@
 -- `changer::may_leave` meets its contract: the first test that refuses, or none. Assumes nothing.
 use borrow.Author.Rules.{rules}
-use Rattle.changer.proofs.Tests.{ill-formed, joint-goes, joint-refuses}
+use Rattle.changer.proofs.Tests.{ill_formed, joint_goes, joint-refuses}
 use Rattle.changer.proofs.may_leave.Statement.{statement}
 use Rattle.changer.proofs.may_leave.Tie as tie
 
@@ -11,7 +11,7 @@ verdict-requires : tie.Need-verdict-requires
 verdict-requires c κs = search rules
 
 returns : tie.Need-returns
-returns c = search (rules, ill-formed)
+returns c = search (rules, ill_formed)
 
 joint-requires : tie.Need-joint-requires
 joint-requires c κs = search rules
@@ -20,7 +20,7 @@ check-invariants-requires : tie.Need-check-invariants-requires
 check-invariants-requires c κs = search rules
 
 returns-2 : tie.Need-returns-2
-returns-2 c = search (rules, joint-goes)
+returns-2 c = search (rules, joint_goes)
 
 verdict-requires-2 : tie.Need-verdict-requires-2
 verdict-requires-2 c κs = search rules

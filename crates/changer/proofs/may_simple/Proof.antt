@@ -1,6 +1,6 @@
 -- `changer::may_simple` meets its contract: the first test that refuses, or none. Assumes nothing.
 use borrow.Author.Rules.{rules}
-use Rattle.changer.proofs.Tests.{ill-formed, unreadable, single-refuses, single-goes}
+use Rattle.changer.proofs.Tests.{ill_formed, unreadable, single-refuses, single_goes}
 use Rattle.changer.proofs.may_simple.Statement.{statement}
 use Rattle.changer.proofs.may_simple.Tie as tie
 
@@ -11,7 +11,7 @@ verdict-requires : tie.Need-verdict-requires
 verdict-requires c κs = search rules
 
 returns : tie.Need-returns
-returns c = search (rules, ill-formed)
+returns c = search (rules, ill_formed)
 
 readable-requires : tie.Need-readable-requires
 readable-requires c κs = search rules
@@ -32,7 +32,7 @@ check-invariants-requires : tie.Need-check-invariants-requires
 check-invariants-requires c κs = search rules
 
 returns-4 : tie.Need-returns-4
-returns-4 c = search (rules, single-goes)
+returns-4 c = search (rules, single_goes)
 
 pub may-simple-spec : {M : Type 1} → statement M
 may-simple-spec =

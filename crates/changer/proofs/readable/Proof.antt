@@ -1,6 +1,6 @@
 -- `changer::readable` meets its contract: the first test that refuses, or none. Assumes nothing.
 use borrow.Author.Rules.{rules}
-use Rattle.changer.proofs.Tests.{reads-uneven, reads-long, reads-above, reads-well}
+use Rattle.changer.proofs.Tests.{reads_uneven, reads-long, reads-above, reads_well}
 use Rattle.changer.proofs.readable.Statement.{statement}
 use Rattle.changer.proofs.readable.Tie as tie
 
@@ -8,7 +8,7 @@ verdict-requires : tie.Need-verdict-requires
 verdict-requires c κs = search rules
 
 returns : tie.Need-returns
-returns c = search (rules, reads-uneven)
+returns c = search (rules, reads_uneven)
 
 verdict-requires-2 : tie.Need-verdict-requires-2
 verdict-requires-2 c κs = search rules
@@ -29,7 +29,7 @@ verdict-requires-4 : tie.Need-verdict-requires-4
 verdict-requires-4 c κs = search rules
 
 returns-4 : tie.Need-returns-4
-returns-4 c = search (rules, reads-well)
+returns-4 c = search (rules, reads_well)
 
 pub readable-spec : {M : Type 1} → statement M
 readable-spec =

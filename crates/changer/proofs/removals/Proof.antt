@@ -2,8 +2,8 @@
 -- many places of `outgoing` are left. Assumes nothing.
 use borrow.Author.Rules.{rules}
 use Prim.Native.Nat.{◌-◌}
-use Rattle.idset.proofs.Sizes.{set-sized}
-use Rattle.changer.proofs.Removed.{Leaving, leave-start, leave-end, leave-out, leave-next}
+use Rattle.idset.proofs.Sizes.{set_sized}
+use Rattle.changer.proofs.Removed.{Leaving, leave-start, leave-end, leave_out, leave-next}
 use Rattle.changer.proofs.removals.Statement.{statement}
 use Rattle.changer.proofs.removals.Tie as tie
 
@@ -17,7 +17,7 @@ new-requires : tie.Need-new-requires invariant-loop decreases-loop
 new-requires c κs = search rules
 
 loop-holds : tie.Need-loop-init invariant-loop decreases-loop
-loop-holds c = search (rules, leave-start, set-sized)
+loop-holds c = search (rules, leave-start, set_sized)
 
 returns : tie.Need-returns invariant-loop decreases-loop
 returns c = search (rules, leave-end)
@@ -58,7 +58,7 @@ loop-again c =
     leave-next l.before.loop.invariant at.if1.false l.loop-test.true _ s.before.before.before.before.seek.ensures _ s.seek2.ensures _ d.stands_at.ensures _ c.before.stands-at2.ensures c.removal.ensures
 
 returns-2 : tie.Need-returns-2 invariant-loop decreases-loop
-returns-2 c = search (rules, leave-out)
+returns-2 c = search (rules, leave_out)
 
 pub removals-spec : {M : Type 1} → statement M
 removals-spec =

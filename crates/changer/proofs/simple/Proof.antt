@@ -1,6 +1,6 @@
 -- `changer::simple` meets its contract, at each place where it returns. Assumes nothing.
 use borrow.Author.Rules.{rules}
-use Rattle.changer.proofs.Called.{simple-stops, simple-list, simple-apart, simple-again}
+use Rattle.changer.proofs.Called.{simple-stops, simple_list, simple-apart, simple_again}
 use Rattle.changer.proofs.simple.Statement.{statement}
 use Rattle.changer.proofs.simple.Tie as tie
 
@@ -20,7 +20,7 @@ refused-requires-2 : tie.Need-refused-requires-2
 refused-requires-2 c κs = search rules
 
 returns-2 : tie.Need-returns-2
-returns-2 c = search (rules, simple-list)
+returns-2 c = search (rules, simple_list)
 
 two-apart-requires : tie.Need-two-apart-requires
 two-apart-requires c κs = search rules
@@ -35,7 +35,7 @@ check-again-requires : tie.Need-check-again-requires
 check-again-requires c κs = search rules
 
 returns-4 : tie.Need-returns-4
-returns-4 c = search (rules, simple-again)
+returns-4 c = search (rules, simple_again)
 
 pub simple-spec : {M : Type 1} → statement M
 simple-spec =

@@ -2,8 +2,8 @@
 -- places of the log are left. Assumes nothing.
 use borrow.Author.Rules.{rules}
 use Prim.Native.Nat.{◌-◌}
-use Rattle.tracker.proofs.Sizes.{log-sized}
-use Rattle.changer.proofs.Tracked.{Tracking, track-end, track-out, track-next}
+use Rattle.tracker.proofs.Sizes.{log_sized}
+use Rattle.changer.proofs.Tracked.{Tracking, track-end, track_out, track-next}
 use Rattle.changer.proofs.tracked_after.Statement.{statement}
 use Rattle.changer.proofs.tracked_after.Tie as tie
 
@@ -14,7 +14,7 @@ abbrev decreases-loop : tie.decreases-loop
 decreases-loop log ids₀ n i₀ ids i = 256 - i
 
 loop-holds : tie.Need-loop-init invariant-loop decreases-loop
-loop-holds c = search (rules, log-sized)
+loop-holds c = search (rules, log_sized)
 
 returns : tie.Need-returns invariant-loop decreases-loop
 returns c = search (rules, track-end)
@@ -38,7 +38,7 @@ loop-again : tie.Need-loop-preserved invariant-loop decreases-loop
 loop-again c = search (rules, track-next)
 
 returns-2 : tie.Need-returns-2 invariant-loop decreases-loop
-returns-2 c = search (rules, track-out)
+returns-2 c = search (rules, track_out)
 
 pub tracked-after-spec : {M : Type 1} → statement M
 tracked-after-spec =

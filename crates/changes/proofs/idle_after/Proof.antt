@@ -10,7 +10,7 @@ one-more-requires : tie.Need-one-more-requires
 one-more-requires c κs = search rules
 
 returns-2 : tie.Need-returns-2
-returns-2 c = rw (c.before.if1.false, c.one_more.ensures)
+returns-2 c = rw (c.before.if1.false, c.one_more_lem.ensures)
 
 pub idle-after-spec : {M : Type 1} → statement M
 idle-after-spec = tie.close (tie.spec returns one-more-requires returns-2)

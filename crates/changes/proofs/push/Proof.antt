@@ -1,13 +1,13 @@
 -- `changes::push` meets its contract. Assumes nothing.
-use borrow.Author.Tests.{le-leb, lt-leb}
+use borrow.Author.Tests.{le_leb, lt-leb}
 use borrow.Author.Rules.{rules}
-use Rattle.changes.specs.Change.{pushIn}
+use Rattle.changes.specs.Change.{push_in}
 use Rattle.changes.proofs.push.Statement.{statement}
 use Rattle.changes.proofs.push.Tie as tie
 
 returns : tie.Need-returns
-unfolding pushIn
-returns c = rw (le-leb 256 _ c.if1.true)
+unfolding push_in
+returns c = rw (le_leb 256 _ c.if1.true)
 
 mul-t8 : tie.Need-overflow-mul-t8
 mul-t8 c = search rules
@@ -19,7 +19,7 @@ add-longer : tie.Need-overflow-add-longer
 add-longer c = search rules
 
 returns-2 : tie.Need-returns-2
-unfolding pushIn
+unfolding push_in
 returns-2 c = rw (lt-leb 256 _ c.if1.false)
 
 pub push_spec : {M : Type 1} → statement M

@@ -2,7 +2,7 @@
 use native.Mathlib.Omega.{arith}
 use borrow.Author.Rules.{rules}
 use lib.ListN.{length}
-use Rattle.comparison.proofs.Messages.{number_small, both-ascend, answer-refused, leaves-refused, answer-none, leaves_none, answer-all, leaves_all}
+use Rattle.comparison.proofs.Messages.{number_small, both_ascend, answer-refused, leaves-refused, answer_none, leaves_none, answer-all, leaves_all}
 use Rattle.comparison.proofs.compare.Statement.{statement}
 use Rattle.comparison.proofs.compare.Tie as tie
 
@@ -31,7 +31,7 @@ slice-aggregate-have-room-2 : tie.Need-slice-aggregate-have-room-2
 slice-aggregate-have-room-2 c = search rules
 
 have-room-requires : tie.Need-have-room-requires
-have-room-requires c κs = both-ascend c.before.before.before.before.before.read-both.ensures c.before.before.if1.false
+have-room-requires c κs = both_ascend c.before.before.before.before.before.read-both.ensures c.before.before.if1.false
 
 returns-2 : tie.Need-returns-2
 returns-2 c =
@@ -39,7 +39,7 @@ returns-2 c =
     let r = c.before.before.before.before.before.before.before.read-both.ensures in
     let z = c.before.before.before.before.if1.false in
     let f = c.before.have-room.ensures in
-    (answer-none r z s.out.now f c.if2.true, leaves_none r z s.out.now f c.if2.true)
+    (answer_none r z s.out.now f c.if2.true, leaves_none r z s.out.now f c.if2.true)
 
 slice-aggregate-put-lines : tie.Need-slice-aggregate-put-lines
 slice-aggregate-put-lines c = search rules
@@ -48,7 +48,7 @@ slice-aggregate-put-lines-2 : tie.Need-slice-aggregate-put-lines-2
 slice-aggregate-put-lines-2 c = search rules
 
 put-lines-requires : tie.Need-put-lines-requires
-put-lines-requires c κs = both-ascend c.before.before.before.before.before.before.before.before.before.before.read-both.ensures c.before.before.before.before.before.before.before.if1.false
+put-lines-requires c κs = both_ascend c.before.before.before.before.before.before.before.before.before.before.read-both.ensures c.before.before.before.before.before.before.before.if1.false
 
 same_length : tie.Need-same-length
 same_length c = search rules
@@ -61,7 +61,7 @@ returns-3 c =
     let f = c.before.before.before.before.before.before.before.have-room.ensures in
     let k = c.before.before.before.before.before.before.if2.false in
     let g = c.before.before.put-lines.ensures in
-    (answer-all r z s.args.out.now f k (omega (arith, s.well-formed)) g, leaves_all r z s.args.out.now f k (omega (arith, s.well-formed)) g)
+    (answer-all r z s.args.out.now f k (omega (arith, s.well_formed_lem)) g, leaves_all r z s.args.out.now f k (omega (arith, s.well_formed_lem)) g)
 
 pub compare-spec : {M : Type 1} → statement M
 compare-spec =

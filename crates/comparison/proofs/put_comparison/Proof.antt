@@ -1,6 +1,6 @@
 -- `comparison::put_comparison` meets its contract: `refused N`, or the lines of the messages that were read. Assumes nothing.
 use borrow.Author.Rules.{rules}
-use Rattle.comparison.proofs.Messages.{compared-refused, both-ascend, compared-lines}
+use Rattle.comparison.proofs.Messages.{compared_refused, both_ascend, compared_lines}
 use Rattle.comparison.proofs.put_comparison.Statement.{statement}
 use Rattle.comparison.proofs.put_comparison.Tie as tie
 
@@ -20,7 +20,7 @@ same_length : tie.Need-same-length
 same_length c = search rules
 
 returns : tie.Need-returns
-returns c = rw (compared-refused c.before.before.before.before.before.before.before.read-both.ensures c.before.before.before.before.if1.true) c.before.before.Put-refused.ensures
+returns c = rw (compared_refused c.before.before.before.before.before.before.before.read-both.ensures c.before.before.before.before.if1.true) c.before.before.Put-refused.ensures
 
 slice-aggregate-put-lines : tie.Need-slice-aggregate-put-lines
 slice-aggregate-put-lines c = search rules
@@ -29,13 +29,13 @@ slice-aggregate-put-lines-2 : tie.Need-slice-aggregate-put-lines-2
 slice-aggregate-put-lines-2 c = search rules
 
 put-lines-requires : tie.Need-put-lines-requires
-put-lines-requires c κs = both-ascend c.before.before.before.before.before.before.read-both.ensures c.before.before.before.if1.false
+put-lines-requires c κs = both_ascend c.before.before.before.before.before.before.read-both.ensures c.before.before.before.if1.false
 
 same-length-2 : tie.Need-same-length-2
 same-length-2 c = search rules
 
 returns-2 : tie.Need-returns-2
-returns-2 c = rw (compared-lines c.before.before.before.before.before.before.before.before.before.read-both.ensures c.before.before.before.before.before.before.if1.false) c.before.before.put-lines.ensures
+returns-2 c = rw (compared_lines c.before.before.before.before.before.before.before.before.before.read-both.ensures c.before.before.before.before.before.before.if1.false) c.before.before.put-lines.ensures
 
 pub put-comparison-spec : {M : Type 1} → statement M
 put-comparison-spec =

@@ -1,7 +1,7 @@
 -- `comparison::put_ids` meets its contract: what is left to be put is the lines of what is left of both messages. Assumes nothing.
 use native.Mathlib.Omega.{arith}
 use borrow.Author.Rules.{rules}
-use Rattle.comparison.proofs.Places.{Walked, left, walk_start, walk-length, walk_end, walk-less, walk_turn}
+use Rattle.comparison.proofs.Places.{Walked, left, walk_start, walk_length, walk_end, walk_less, walk_turn}
 use Rattle.comparison.proofs.put_ids.Statement.{statement}
 use Rattle.comparison.proofs.put_ids.Tie as tie
 
@@ -23,7 +23,7 @@ next-id-requires c κs = search rules
 loop-holds : tie.Need-loop-init invariant-loop decreases-loop
 loop-holds c =
     let s = c.before.before.before.before.before.before in
-    walk_start (omega (arith, s.well-formed)) (omega (arith, s.ranges)) s.requires.0 s.requires.1 c.before.before.begin.ensures c.before.begin2.ensures c.next-id.ensures
+    walk_start (omega (arith, s.well_formed_lem)) (omega (arith, s.ranges)) s.requires.0 s.requires.1 c.before.before.begin.ensures c.before.begin2.ensures c.next-id.ensures
 
 sets-at-requires : tie.Need-sets-at-requires invariant-loop decreases-loop
 sets-at-requires c κs = search rules
@@ -45,7 +45,7 @@ next-id-requires-2 c κs = let s = c.before.before.before.before.before.before.b
 
 loop-less : tie.Need-loop-smaller invariant-loop decreases-loop
 loop-less c =
-    walk-less c.before.before.before.before.before.before.before.before.before.before.loop.invariant c.before.before.before.before.before.before.before.before.before.loop-test.true c.before.before.before.before.before.before.before.before.sets-at.ensures c.before.before.before.before.before.before.before.sets-at2.ensures c.before.before.past.ensures c.before.past2.ensures
+    walk_less c.before.before.before.before.before.before.before.before.before.before.loop.invariant c.before.before.before.before.before.before.before.before.before.loop-test.true c.before.before.before.before.before.before.before.before.sets-at.ensures c.before.before.before.before.before.before.before.sets-at2.ensures c.before.before.past.ensures c.before.past2.ensures
 
 loop-again : tie.Need-loop-preserved invariant-loop decreases-loop
 loop-again c =
@@ -53,7 +53,7 @@ loop-again c =
     walk_turn c.before.before.before.before.before.before.before.before.before.before.loop.invariant c.before.before.before.before.before.before.before.before.before.loop-test.true c.before.before.before.before.before.before.before.before.sets-at.ensures c.before.before.before.before.before.before.before.sets-at2.ensures c.before.before.past.ensures c.before.past2.ensures s.requires.0.lists s.requires.1.lists c.before.before.before.before.before.put_id.ensures c.next-id2.ensures
 
 same_length : tie.Need-same-length invariant-loop decreases-loop
-same_length c = search (rules, walk-length)
+same_length c = search (rules, walk_length)
 
 returns : tie.Need-returns invariant-loop decreases-loop
 returns c = search (rules, walk_end)

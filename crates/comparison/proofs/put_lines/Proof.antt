@@ -2,7 +2,7 @@
 use native.Mathlib.Omega.{arith}
 use borrow.Author.Rules.{rules}
 use Rattle.text.proofs.Laws.{put_then}
-use Rattle.confstate.specs.Words.{messageIn}
+use Rattle.confstate.specs.Words.{message_in}
 use Rattle.comparison.specs.Compare.{lines}
 use Rattle.comparison.proofs.put_lines.Statement.{statement}
 use Rattle.comparison.proofs.put_lines.Tie as tie
@@ -23,10 +23,10 @@ same_length : tie.Need-same-length
 same_length c = search rules
 
 returns : tie.Need-returns
-unfolding lines messageIn
+unfolding lines message_in
 returns c =
     let s = c.before.before.before.before.before.before.before.before.before.before.before.before.before in
-    put_then (omega (arith, s.well-formed)) c.before.before.before.before.before.before.before.before.put-ids.ensures c.before.before.put-flag.ensures
+    put_then (omega (arith, s.well_formed_lem)) c.before.before.before.before.before.before.before.before.put-ids.ensures c.before.before.put-flag.ensures
 
 pub put-lines-spec : {M : Type 1} → statement M
 put-lines-spec =

@@ -2,7 +2,7 @@
 use native.Mathlib.Omega.{arith}
 use borrow.Author.Rules.{rules}
 use Rattle.text.proofs.Laws.{rest_all, rest_put, rest-last}
-use Rattle.comparison.specs.Compare.{refusedText}
+use Rattle.comparison.specs.Compare.{refused_text}
 use Rattle.comparison.proofs.put_refused.Statement.{statement}
 use Rattle.comparison.proofs.put_refused.Tie as tie
 
@@ -22,10 +22,10 @@ same_length : tie.Need-same-length
 same_length c = search rules
 
 returns : tie.Need-returns
-unfolding refusedText
+unfolding refused_text
 returns c =
     let s = c.before.before.before.before.before.before.before.before.before.before.before.before.before.before in
-    rest-last (rest_put (rest_put (rest_all (omega (arith, s.well-formed, s.ranges)) (omega (arith, s.well-formed, s.ranges))) c.before.before.before.before.before.before.before.before.before.before.put-bytes.ensures) c.before.before.before.before.before.before.put-decimal.ensures) c.before.before.put_byte.ensures
+    rest-last (rest_put (rest_put (rest_all (omega (arith, s.well_formed_lem, s.ranges)) (omega (arith, s.well_formed_lem, s.ranges))) c.before.before.before.before.before.before.before.before.before.before.put-bytes.ensures) c.before.before.before.before.before.before.put-decimal.ensures) c.before.before.put_byte.ensures
 
 pub put-refused-spec : {M : Type 1} → statement M
 put-refused-spec =

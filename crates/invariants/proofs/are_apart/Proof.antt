@@ -10,7 +10,7 @@ first-where-requires : tie.Need-first-where-requires
 first-where-requires c κs = search rules
 
 returns : tie.Need-returns
-returns c = ap (λ (o : Found). not o.some) c.before.first-where.ensures
+returns c = ap (λ (o : Found). not o.some) c.before.first_where_lem.ensures
 
 pub are-apart-spec : {M : Type 1} → statement M
 are-apart-spec = tie.close (tie.spec first-where-requires returns)

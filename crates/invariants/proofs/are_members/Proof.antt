@@ -1,7 +1,7 @@
 -- `invariants::are_members` meets its contract: a walk along the union of the four sets. Assumes nothing.
 use borrow.Author.Rules.{rules}
 use Rattle.idset.specs.Set.{held}
-use Rattle.invariants.proofs.Members.{members-say}
+use Rattle.invariants.proofs.Members.{members_say}
 use Rattle.invariants.proofs.are_members.Statement.{statement}
 use Rattle.invariants.proofs.are_members.Tie as tie
 
@@ -21,7 +21,7 @@ returns : tie.Need-returns
 returns c =
     let u = c.before.before.before.before.before.before.before.before.before in
     let g = u.before.before.before.args in
-    members-say (held g.t2) g.conf u.before.before.union.ensures u.before.union2.ensures u.union3.ensures c.before.first-where.ensures
+    members_say (held g.t2) g.conf u.before.before.union.ensures u.before.union2.ensures u.union3.ensures c.before.first_where_lem.ensures
 
 pub are-members-spec : {M : Type 1} → statement M
 are-members-spec =

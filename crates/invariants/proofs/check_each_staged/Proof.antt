@@ -1,7 +1,7 @@
 -- `invariants::check_each_staged` meets its contract: the sooner of two walks' faults. Assumes nothing.
 use borrow.Author.Rules.{rules}
 use lib.ListN.{take}
-use Rattle.invariants.proofs.Parts.{staged-say}
+use Rattle.invariants.proofs.Parts.{staged_say}
 use Rattle.invariants.proofs.check_each_staged.Statement.{statement}
 use Rattle.invariants.proofs.check_each_staged.Tie as tie
 
@@ -23,7 +23,7 @@ sooner-requires c κs = search rules
 returns : tie.Need-returns
 returns c =
     let a = c.before.before.before.before.before.before.before.before.args in
-    staged-say (take a.n a.ids.now) (take a.o a.outgoing.now) (take a.g a.staged.now) c.before.before.before.before.first-where.ensures c.before.before.before.fault.ensures
+    staged_say (take a.n a.ids.now) (take a.o a.outgoing.now) (take a.g a.staged.now) c.before.before.before.before.first_where_lem.ensures c.before.before.before.fault.ensures
     c.before.before.first-where2.ensures c.before.fault2.ensures c.sooner.ensures
 
 pub check-each-staged-spec : {M : Type 1} → statement M

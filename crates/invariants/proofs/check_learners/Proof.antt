@@ -1,7 +1,7 @@
 -- `invariants::check_learners` meets its contract: the soonest of three walks' faults. Assumes nothing.
 use borrow.Author.Rules.{rules}
 use lib.ListN.{take}
-use Rattle.invariants.proofs.Parts.{learners-say}
+use Rattle.invariants.proofs.Parts.{learners_say}
 use Rattle.invariants.proofs.check_learners.Statement.{statement}
 use Rattle.invariants.proofs.check_learners.Tie as tie
 
@@ -32,8 +32,8 @@ sooner-requires-2 c κs = search rules
 returns : tie.Need-returns
 returns c =
     let g = c.before.before.before.before.before.before.before.before.before.before.before.before.args in
-    learners-say (take g.n g.ids.now) (take g.i g.incoming.now) (take g.o g.outgoing.now) (take g.l g.learners.now)
-    c.before.before.before.before.before.before.before.first-where.ensures c.before.before.before.before.before.before.fault.ensures c.before.before.before.before.before.first-where2.ensures c.before.before.before.before.fault2.ensures
+    learners_say (take g.n g.ids.now) (take g.i g.incoming.now) (take g.o g.outgoing.now) (take g.l g.learners.now)
+    c.before.before.before.before.before.before.before.first_where_lem.ensures c.before.before.before.before.before.before.fault.ensures c.before.before.before.before.before.first-where2.ensures c.before.before.before.before.fault2.ensures
     c.before.before.before.first-where3.ensures c.before.before.fault3.ensures c.before.sooner.ensures c.sooner2.ensures
 
 pub check-learners-spec : {M : Type 1} → statement M

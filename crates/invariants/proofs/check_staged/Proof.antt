@@ -1,7 +1,7 @@
 -- `invariants::check_staged` meets its contract: 11 and 12 of each staged id, then 13 and 14. Assumes nothing.
 use borrow.Author.Rules.{rules}
 use lib.ListN.{take}
-use Rattle.invariants.proofs.Parts.{staged-stops, staged-goes}
+use Rattle.invariants.proofs.Parts.{staged-stops, staged_goes}
 use Rattle.invariants.proofs.check_staged.Statement.{statement}
 use Rattle.invariants.proofs.check_staged.Tie as tie
 
@@ -26,7 +26,7 @@ returns-2 : tie.Need-returns-2
 returns-2 c =
     let s = c.before.before.before in
     let a = s.before.before.before.before.before.before.args in
-    staged-goes (take a.n a.ids.now) (take a.o a.outgoing.now) (take a.g a.staged.now) a.auto-leave s.before.before.check-each-staged.ensures s.if1.false
+    staged_goes (take a.n a.ids.now) (take a.o a.outgoing.now) (take a.g a.staged.now) a.auto-leave s.before.before.check-each-staged.ensures s.if1.false
     c.before.before.is-past.ensures c.before.is-past2.ensures c.check-single.ensures
 
 pub check-staged-spec : {M : Type 1} → statement M

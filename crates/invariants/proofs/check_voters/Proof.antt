@@ -1,7 +1,7 @@
 -- `invariants::check_voters` meets its contract: the sooner of two walks' faults. Assumes nothing.
 use borrow.Author.Rules.{rules}
 use lib.ListN.{take}
-use Rattle.invariants.proofs.Parts.{voters-say}
+use Rattle.invariants.proofs.Parts.{voters_say}
 use Rattle.invariants.proofs.check_voters.Statement.{statement}
 use Rattle.invariants.proofs.check_voters.Tie as tie
 
@@ -23,7 +23,7 @@ sooner-requires c κs = search rules
 returns : tie.Need-returns
 returns c =
     let g = c.before.before.before.before.before.before.before.before.args in
-    voters-say (take g.n g.ids.now) (take g.i g.incoming.now) (take g.o g.outgoing.now) c.before.before.before.before.first-where.ensures c.before.before.before.fault.ensures
+    voters_say (take g.n g.ids.now) (take g.i g.incoming.now) (take g.o g.outgoing.now) c.before.before.before.before.first_where_lem.ensures c.before.before.before.fault.ensures
     c.before.before.first-where2.ensures c.before.fault2.ensures c.sooner.ensures
 
 pub check-voters-spec : {M : Type 1} → statement M

@@ -3,7 +3,7 @@
 use borrow.Author.Rules.{rules}
 use Prim.Native.Nat.{◌-◌}
 use lib.ListN.{length}
-use Rattle.invariants.proofs.Walk.{Walking, walk_end, walk-done, walk-halt, walk-next}
+use Rattle.invariants.proofs.Walk.{Walking, walk_end, walk_done, walk_halt, walk_next}
 use Rattle.invariants.proofs.first_where.Statement.{statement}
 use Rattle.invariants.proofs.first_where.Tie as tie
 
@@ -32,7 +32,7 @@ stands-at-requires : tie.Need-stands-at-requires invariant-loop decreases-loop
 stands-at-requires c κs = search rules
 
 returns-2 : tie.Need-returns-2 invariant-loop decreases-loop
-returns-2 c = search (rules, walk-halt)
+returns-2 c = search (rules, walk_halt)
 
 add-i : tie.Need-overflow-add-i invariant-loop decreases-loop
 add-i c = search rules
@@ -41,10 +41,10 @@ loop-less : tie.Need-loop-smaller invariant-loop decreases-loop
 loop-less c = search rules
 
 loop-again : tie.Need-loop-preserved invariant-loop decreases-loop
-loop-again c = search (rules, walk-next)
+loop-again c = search (rules, walk_next)
 
 returns-3 : tie.Need-returns-3 invariant-loop decreases-loop
-returns-3 c = search (rules, walk-done)
+returns-3 c = search (rules, walk_done)
 
 pub first-where-spec : {M : Type 1} → statement M
 first-where-spec =

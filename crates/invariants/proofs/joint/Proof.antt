@@ -9,7 +9,7 @@ is-empty-requires : tie.Need-is-empty-requires
 is-empty-requires c κs = search rules
 
 returns : tie.Need-returns
-returns c = ap not c.«is-empty».ensures
+returns c = ap not c.«is_empty_lem».ensures
 
 pub joint-spec : {M : Type 1} → statement M
 joint-spec = tie.close (tie.spec is-empty-requires returns)

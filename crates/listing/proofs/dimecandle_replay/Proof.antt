@@ -1,7 +1,7 @@
 -- `listing::dimecandle_replay` meets its contract: a script that is too long, a listing that does not fit, one that fits. Assumes nothing.
 use native.Mathlib.Omega.{arith}
 use borrow.Author.Rules.{rules}
-use Rattle.listing.proofs.Replay.{answer-long, leaves-long, answer-none, leaves_none, answer-all, leaves_all}
+use Rattle.listing.proofs.Replay.{answer-long, leaves-long, answer_none, leaves_none, answer-all, leaves_all}
 use Rattle.listing.proofs.dimecandle_replay.Statement.{statement}
 use Rattle.listing.proofs.dimecandle_replay.Tie as tie
 
@@ -19,7 +19,7 @@ returns-2 c =
     let s = c.before.before.before.before.before.before.before.args in
     let h = c.before.before.before.before.if1.false in
     let f = c.before.before.put-listing.ensures in
-    (answer-none s.script.now s.out.now h f c.if2.true, leaves_none s.script.now s.out.now h f c.if2.true)
+    (answer_none s.script.now s.out.now h f c.if2.true, leaves_none s.script.now s.out.now h f c.if2.true)
 
 put-listing-requires-2 : tie.Need-put-listing-requires-2
 put-listing-requires-2 c κs = search rules

@@ -4,9 +4,9 @@ use native.Mathlib.Omega.{arith}
 use borrow.Author.Rules.{rules}
 use borrow.Author.Tests.{lt-ltb, le-ltb}
 use lib.ListN.{length}
-use Rattle.text.proofs.Laws.{put-none}
+use Rattle.text.proofs.Laws.{put_none}
 use Rattle.listing.specs.Listing.{ending}
-use Rattle.listing.proofs.Pending.{none-pending, some-pending}
+use Rattle.listing.proofs.Pending.{none_pending, some-pending}
 use Rattle.listing.proofs.put_ending.Statement.{statement}
 use Rattle.listing.proofs.put_ending.Tie as tie
 
@@ -18,13 +18,13 @@ same_length c = search rules
 
 returns : tie.Need-returns
 unfolding ending
-returns c = simp (lt-ltb _ _ c.before.before.before.before.if1.true) c.before.before.put-stopped.ensures
+returns c = simp (lt-ltb _ _ c.before.before.before.before.if1.true) c.before.before.put_stopped.ensures
 
 returns-2 : tie.Need-returns-2
 unfolding ending
 returns-2 c =
     let e : length c.before.before.before.before.args.z.ids ≡ 256 = search rules in
-    simp (le-ltb _ _ c.before.before.if1.false, none-pending c.before.before.before.before.args.z e c.if2.true) (put-none (omega arith))
+    simp (le-ltb _ _ c.before.before.if1.false, none_pending c.before.before.before.before.args.z e c.if2.true) (put_none (omega arith))
 
 put-stopped-requires-2 : tie.Need-put-stopped-requires-2
 put-stopped-requires-2 c κs = search rules

@@ -2,7 +2,7 @@
 use native.Mathlib.Omega.{arith}
 use borrow.Author.Rules.{rules}
 use Rattle.text.proofs.Laws.{put_then}
-use Rattle.listing.specs.Lines.{stoppedLine}
+use Rattle.listing.specs.Lines.{stopped_line}
 use Rattle.listing.proofs.put_stopped.Statement.{statement}
 use Rattle.listing.proofs.put_stopped.Tie as tie
 
@@ -22,7 +22,7 @@ same_length : tie.Need-same-length
 same_length c = search rules
 
 returns : tie.Need-returns
-unfolding stoppedLine
+unfolding stopped_line
 returns c = put_then (omega arith) c.before.before.before.before.before.before.before.before.before.before.put-bytes.ensures (put_then (omega arith) c.before.before.before.before.before.before.put-decimal.ensures c.before.before.put_byte.ensures)
 
 pub put-stopped-spec : {M : Type 1} → statement M

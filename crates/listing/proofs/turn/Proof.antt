@@ -2,7 +2,7 @@
 use native.Mathlib.Omega.{arith}
 use mathlib.Core.Path.{◌∙◌}
 use borrow.Author.Rules.{rules}
-use Rattle.text.proofs.Laws.{put-none}
+use Rattle.text.proofs.Laws.{put_none}
 use Rattle.listing.proofs.Turns.{change-shown, change-after, run-shown, run-after}
 use Rattle.listing.proofs.turn.Statement.{statement}
 use Rattle.listing.proofs.turn.Tie as tie
@@ -11,7 +11,7 @@ pend-requires : tie.Need-pend-requires
 pend-requires c κs = search rules
 
 returns : tie.Need-returns
-returns c = (rw (change-shown _ _ c.before.if1.true) (put-none (omega arith)), c.pend.ensures ∙ change-after _ _ _ c.before.if1.true)
+returns c = (rw (change-shown _ _ c.before.if1.true) (put_none (omega arith)), c.pend.ensures ∙ change-after _ _ _ c.before.if1.true)
 
 answer-to-requires : tie.Need-answer-to-requires
 answer-to-requires c κs = search rules

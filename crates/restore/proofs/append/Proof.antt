@@ -1,9 +1,9 @@
 -- `append`: the ids so far stand behind the list, each of this kind. The measure is what is left of them. Assumes nothing.
 use borrow.Author.Rules.{rules}
 use Prim.Native.Nat.{◌-◌}
-use Rattle.tracker.proofs.Sizes.{list-sized}
-use Rattle.restore.proofs.Sizes.{ids-sized, kinds-sized}
-use Rattle.restore.proofs.Lists.{Appending, appending-end, appending-next, appending-start}
+use Rattle.tracker.proofs.Sizes.{list_sized}
+use Rattle.restore.proofs.Sizes.{ids_sized, kinds_sized}
+use Rattle.restore.proofs.Lists.{Appending, appending_end, appending_next, appending_start}
 use Rattle.restore.proofs.append.Statement.{statement}
 use Rattle.restore.proofs.append.Tie as tie
 
@@ -15,7 +15,7 @@ decreases-loop kind list c₀ n i₀ c i = n - i
 
 loop-holds : tie.Need-loop-init invariant-loop decreases-loop
 loop-holds c =
-    appending-start _ _ _ c.requires.0 c.requires.1 (list-sized c.args.t2 c.well-formed.1.0) (ids-sized c.args.changes c.well-formed.0) (kinds-sized c.args.changes c.well-formed.0)
+    appending_start _ _ _ c.requires.0 c.requires.1 (list_sized c.args.t2 c.well_formed_lem.1.0) (ids_sized c.args.changes c.well_formed_lem.0) (kinds_sized c.args.changes c.well_formed_lem.0)
 
 mul-c : tie.Need-overflow-mul-c invariant-loop decreases-loop
 mul-c c = search rules
@@ -42,10 +42,10 @@ loop-less : tie.Need-loop-smaller invariant-loop decreases-loop
 loop-less c = search rules
 
 loop-again : tie.Need-loop-preserved invariant-loop decreases-loop
-loop-again c = appending-next c.before.before.loop.invariant 0 c.before.loop-test.true
+loop-again c = appending_next c.before.before.loop.invariant 0 c.before.loop-test.true
 
 returns : tie.Need-returns invariant-loop decreases-loop
-returns c = appending-end c.before.loop.invariant c.loop-test.false
+returns c = appending_end c.before.loop.invariant c.loop-test.false
 
 pub append-spec : {M : Type 1} → statement M
 append-spec =

@@ -1,8 +1,8 @@
 -- `one_by_one`: what is left of the list answers for all of it. The measure is what is left of its 64 places. Assumes nothing.
 use borrow.Author.Rules.{rules}
 use Prim.Native.Nat.{◌-◌}
-use Rattle.tracker.proofs.Sizes.{list-sized}
-use Rattle.restore.proofs.OneByOne.{Stepping, stepping-start, stepping-end, stepping-out, stepping-stop, stepping-next}
+use Rattle.tracker.proofs.Sizes.{list_sized}
+use Rattle.restore.proofs.OneByOne.{Stepping, stepping_start, stepping_end, stepping_out, stepping_stop, stepping_next}
 use Rattle.restore.proofs.one_by_one.Statement.{statement}
 use Rattle.restore.proofs.one_by_one.Tie as tie
 
@@ -16,10 +16,10 @@ refused-requires : tie.Need-refused-requires invariant-loop decreases-loop
 refused-requires c κs = search rules
 
 loop-holds : tie.Need-loop-init invariant-loop decreases-loop
-loop-holds c = stepping-start _ _ _ _ c.before.args.t c.refused.ensures c.before.requires.0 c.before.requires.1 (list-sized c.before.args.t2 c.before.well-formed.1.0)
+loop-holds c = stepping_start _ _ _ _ c.before.args.t c.refused.ensures c.before.requires.0 c.before.requires.1 (list_sized c.before.args.t2 c.before.well_formed_lem.1.0)
 
 returns : tie.Need-returns invariant-loop decreases-loop
-returns c = stepping-end _ _ _ _ _ c.before.before.before.refused.ensures c.before.before.loop.invariant c.if1.true
+returns c = stepping_end _ _ _ _ _ c.before.before.before.refused.ensures c.before.before.loop.invariant c.if1.true
 
 mul-step : tie.Need-overflow-mul-step invariant-loop decreases-loop
 mul-step c = search rules
@@ -33,7 +33,7 @@ step-requires c κs = search rules
 returns-2 : tie.Need-returns-2 invariant-loop decreases-loop
 returns-2 c =
     let turn = c.before.before.before.before.before in
-    stepping-stop _ _ _ _ _ turn.before.before.before.refused.ensures turn.before.before.loop.invariant turn.if1.false turn.before.loop-test.true _ c.before.before.step.ensures c.if2.true
+    stepping_stop _ _ _ _ _ turn.before.before.before.refused.ensures turn.before.before.loop.invariant turn.if1.false turn.before.loop-test.true _ c.before.before.step.ensures c.if2.true
 
 add-i : tie.Need-overflow-add-i invariant-loop decreases-loop
 add-i c = search rules
@@ -44,10 +44,10 @@ loop-less c = search rules
 loop-again : tie.Need-loop-preserved invariant-loop decreases-loop
 loop-again c =
     let turn = c.before.before.before.before.before in
-    stepping-next _ _ _ _ _ turn.before.before.before.refused.ensures turn.before.before.loop.invariant turn.if1.false turn.before.loop-test.true _ c.before.before.step.ensures c.if2.false
+    stepping_next _ _ _ _ _ turn.before.before.before.refused.ensures turn.before.before.loop.invariant turn.if1.false turn.before.loop-test.true _ c.before.before.step.ensures c.if2.false
 
 returns-3 : tie.Need-returns-3 invariant-loop decreases-loop
-returns-3 c = stepping-out _ _ _ _ _ c.before.before.refused.ensures c.before.loop.invariant c.loop-test.false
+returns-3 c = stepping_out _ _ _ _ _ c.before.before.refused.ensures c.before.loop.invariant c.loop-test.false
 
 pub one-by-one-spec : {M : Type 1} → statement M
 one-by-one-spec =

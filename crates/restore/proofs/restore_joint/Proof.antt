@@ -1,6 +1,6 @@
 -- `restore_joint`: outgoing voters one by one, then the entering; a refused step ends it. Assumes nothing.
 use borrow.Author.Rules.{rules}
-use Rattle.restore.proofs.Answers.{joint-1, joint-2, joint-formed}
+use Rattle.restore.proofs.Answers.{joint_1, joint_2, joint-formed}
 use Rattle.restore.proofs.restore_joint.Statement.{statement}
 use Rattle.restore.proofs.restore_joint.Tie as tie
 
@@ -10,7 +10,7 @@ one-by-one-requires c κs = search rules
 returns : tie.Need-returns
 returns c =
     let start = c.before.before.before in
-    joint-1 _ start.requires.0 start.args.cs _ c.before.before.one_by_one.ensures c.if1.true
+    joint_1 _ start.requires.0 start.args.cs _ c.before.before.one_by_one.ensures c.if1.true
 
 enter-requires : tie.Need-enter-requires
 enter-requires c κs =
@@ -20,7 +20,7 @@ enter-requires c κs =
 returns-2 : tie.Need-returns-2
 returns-2 c =
     let start = c.before.before.before.before.before in
-    joint-2 _ start.requires.0 start.args.cs _ c.before.before.before.before.one_by_one.ensures c.before.before.if1.false c.enter.ensures
+    joint_2 _ start.requires.0 start.args.cs _ c.before.before.before.before.one_by_one.ensures c.before.before.if1.false c.enter.ensures
 
 pub restore-joint-spec : {M : Type 1} → statement M
 restore-joint-spec = tie.close (tie.spec one-by-one-requires returns enter-requires returns-2)

@@ -1,8 +1,8 @@
 -- `restore_step_by_step`: 1, then 2, then the steps of a `ConfState` without or with outgoing voters. Assumes nothing.
 use borrow.Author.Rules.{rules}
 use mathlib.Core.Path.{◌∙◌, sym}
-use Rattle.restore.proofs.Sizes.{outgoing-sized}
-use Rattle.restore.proofs.Answers.{ill, steps-1, steps-2, steps-3, steps-4, well}
+use Rattle.restore.proofs.Sizes.{outgoing_sized}
+use Rattle.restore.proofs.Answers.{ill, steps_1, steps_2, steps_3, steps_4, well}
 use Rattle.restore.proofs.restore_step_by_step.Statement.{statement}
 use Rattle.restore.proofs.restore_step_by_step.Tie as tie
 
@@ -13,7 +13,7 @@ refused-requires : tie.Need-refused-requires
 refused-requires c κs = search rules
 
 returns : tie.Need-returns
-returns c = steps-1 _ _ _ (ill _ c.before.before.is-malformed.ensures c.before.if1.true) c.refused.ensures
+returns c = steps_1 _ _ _ (ill _ c.before.before.is-malformed.ensures c.before.if1.true) c.refused.ensures
 
 too-long-requires : tie.Need-too-long-requires
 too-long-requires c κs = search rules
@@ -24,7 +24,7 @@ refused-requires-2 c κs = search rules
 returns-2 : tie.Need-returns-2
 returns-2 c =
     let tested = c.before.before.before in
-    steps-2 _ _ _ (well _ tested.before.is-malformed.ensures tested.if1.false) (sym c.before.before.too_long.ensures ∙ c.before.if2.true) c.refused2.ensures
+    steps_2 _ _ _ (well _ tested.before.is-malformed.ensures tested.if1.false) (sym c.before.before.too_long.ensures ∙ c.before.if2.true) c.refused2.ensures
 
 restore-single-requires : tie.Need-restore-single-requires
 restore-single-requires c κs =
@@ -35,7 +35,7 @@ returns-3 : tie.Need-returns-3
 returns-3 c =
     let short = c.before.before.before.before in
     let tested = short.before.before in
-    steps-3 _ (well _ tested.before.is-malformed.ensures tested.if1.false) _ (sym short.before.too_long.ensures ∙ short.if2.false) _ c.before.if3.true c.restore-single.ensures
+    steps_3 _ (well _ tested.before.is-malformed.ensures tested.if1.false) _ (sym short.before.too_long.ensures ∙ short.if2.false) _ c.before.if3.true c.restore-single.ensures
 
 restore-joint-requires : tie.Need-restore-joint-requires
 restore-joint-requires c κs =
@@ -48,7 +48,7 @@ returns-4 c =
     let short = c.before.before.before.before in
     let tested = short.before.before in
     let start = tested.before.before in
-    steps-4 _ (well _ tested.before.is-malformed.ensures tested.if1.false) _ (sym short.before.too_long.ensures ∙ short.if2.false) _ c.before.if3.false (outgoing-sized start.args.cs start.well-formed.1.0) c.restore-joint.ensures
+    steps_4 _ (well _ tested.before.is-malformed.ensures tested.if1.false) _ (sym short.before.too_long.ensures ∙ short.if2.false) _ c.before.if3.false (outgoing_sized start.args.cs start.well_formed_lem.1.0) c.restore-joint.ensures
 
 pub restore-step-by-step-spec : {M : Type 1} → statement M
 restore-step-by-step-spec =

@@ -4,7 +4,7 @@ use native.Mathlib.Omega.{arith}
 use lib.ListN.{length}
 use borrow.Author.Rules.{rules}
 use Rattle.text.specs.Text.{each, spaced}
-use Rattle.text.proofs.Laws.{Passing, pass-start, pass-next, pass-end, pass-length}
+use Rattle.text.proofs.Laws.{Passing, pass_start, pass_next, pass_end, pass_length}
 use Rattle.text.proofs.put_all_spaced.Statement.{statement}
 use Rattle.text.proofs.put_all_spaced.Tie as tie
 
@@ -15,7 +15,7 @@ abbrev decreases-loop : tie.decreases-loop
 decreases-loop out₀ at xs p₀ i₀ out p i = length xs - i
 
 loop-holds : tie.Need-loop-init invariant-loop decreases-loop
-loop-holds c = pass-start (omega arith) (omega arith)
+loop-holds c = pass_start (omega arith) (omega arith)
 
 mul-put-spaced : tie.Need-overflow-mul-put-spaced invariant-loop decreases-loop
 mul-put-spaced c = search rules
@@ -33,13 +33,13 @@ loop-less : tie.Need-loop-smaller invariant-loop decreases-loop
 loop-less c = search rules
 
 loop-again : tie.Need-loop-preserved invariant-loop decreases-loop
-loop-again c = search (rules, pass-next)
+loop-again c = search (rules, pass_next)
 
 same_length : tie.Need-same-length invariant-loop decreases-loop
-same_length c = search (rules, pass-length)
+same_length c = search (rules, pass_length)
 
 returns : tie.Need-returns invariant-loop decreases-loop
-returns c = search (rules, pass-end)
+returns c = search (rules, pass_end)
 
 pub put-all-spaced-spec : {M : Type 1} → statement M
 put-all-spaced-spec =

@@ -1,6 +1,6 @@
 -- `text::put_byte` meets its contract. Assumes nothing.
 use borrow.Author.Rules.{rules}
-use Rattle.text.proofs.Laws.{put-out}
+use Rattle.text.proofs.Laws.{put_out}
 use Rattle.text.proofs.put_byte.Statement.{statement}
 use Rattle.text.proofs.put_byte.Tie as tie
 
@@ -20,7 +20,7 @@ next-requires : tie.Need-next-requires
 next-requires c κs = search rules
 
 returns-2 : tie.Need-returns-2
-returns-2 c = search (rules, put-out)
+returns-2 c = search (rules, put_out)
 
 pub put-byte-spec : {M : Type 1} → statement M
 put-byte-spec =

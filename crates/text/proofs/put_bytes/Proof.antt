@@ -5,7 +5,7 @@ use native.Mathlib.Omega.{arith}
 use lib.ListN.{length}
 use borrow.Author.Rules.{rules}
 use Rattle.text.specs.Text.{each}
-use Rattle.text.proofs.Laws.{Passing, pass-start, pass-next, pass-end, pass-length, each-byte}
+use Rattle.text.proofs.Laws.{Passing, pass_start, pass_next, pass_end, pass_length, each_byte}
 use Rattle.text.proofs.put_bytes.Statement.{statement}
 use Rattle.text.proofs.put_bytes.Tie as tie
 
@@ -16,7 +16,7 @@ abbrev decreases-loop : tie.decreases-loop
 decreases-loop out₀ at s p₀ i₀ out p i = length s - i
 
 loop-holds : tie.Need-loop-init invariant-loop decreases-loop
-loop-holds c = pass-start (omega arith) (omega arith)
+loop-holds c = pass_start (omega arith) (omega arith)
 
 shared-slice-read-put-byte : tie.Need-shared-slice-read-put-byte invariant-loop decreases-loop
 shared-slice-read-put-byte c = search rules
@@ -31,13 +31,13 @@ loop-less : tie.Need-loop-smaller invariant-loop decreases-loop
 loop-less c = search rules
 
 loop-again : tie.Need-loop-preserved invariant-loop decreases-loop
-loop-again c = search (rules, pass-next)
+loop-again c = search (rules, pass_next)
 
 same_length : tie.Need-same-length invariant-loop decreases-loop
-same_length c = search (rules, pass-length)
+same_length c = search (rules, pass_length)
 
 returns : tie.Need-returns invariant-loop decreases-loop
-returns c = rw each-byte at (pass-end c.before.loop.invariant c.loop-test.false)
+returns c = rw each_byte at (pass_end c.before.loop.invariant c.loop-test.false)
 
 pub put-bytes-spec : {M : Type 1} → statement M
 put-bytes-spec =

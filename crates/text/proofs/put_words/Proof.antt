@@ -1,12 +1,12 @@
 -- `text::put_words` meets its contract. Assumes nothing.
 use native.Mathlib.Omega.{arith}
 use borrow.Author.Rules.{rules}
-use Rattle.text.proofs.Laws.{put-none, put_then, words-none, words-some}
+use Rattle.text.proofs.Laws.{put_none, put_then, words_none, words-some}
 use Rattle.text.proofs.put_words.Statement.{statement}
 use Rattle.text.proofs.put_words.Tie as tie
 
 returns : tie.Need-returns
-returns c = rw (words-none _ c.if1.true) (put-none (omega arith))
+returns c = rw (words_none _ c.if1.true) (put_none (omega arith))
 
 shared-slice-read-put-decimal : tie.Need-shared-slice-read-put-decimal
 shared-slice-read-put-decimal c = search rules

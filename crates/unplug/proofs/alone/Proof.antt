@@ -1,7 +1,7 @@
 -- `unplug::alone` meets its contract, one law for each answer. Assumes nothing.
 use mathlib.Core.Path.{sym, ◌∙◌}
 use Rattle.unplug.specs.Words.{at}
-use Rattle.unplug.proofs.Unplugged.{left-none, left-of-0, left-some, left_one}
+use Rattle.unplug.proofs.Unplugged.{left_none, left_of_0, left-some, left_one}
 use borrow.Author.Rules.{rules}
 use Rattle.unplug.proofs.alone.Statement.{statement}
 use Rattle.unplug.proofs.alone.Tie as tie
@@ -10,10 +10,10 @@ word-requires : tie.Need-word-requires
 word-requires c κs = search rules
 
 returns : tie.Need-returns
-returns c = let a = c.before.before.before.args in left-none (at a.s.now) a.id (at a.s.now 64) (sym c.before.word.ensures ∙ c.if1.true)
+returns c = let a = c.before.before.before.args in left_none (at a.s.now) a.id (at a.s.now 64) (sym c.before.word.ensures ∙ c.if1.true)
 
 returns-2 : tie.Need-returns-2
-returns-2 c = let a = c.before.before.before.before.args in left-of-0 (at a.s.now) a.id (at a.s.now 64) (λ z. c.before.if1.false (c.before.before.word.ensures ∙ z)) c.if2.true
+returns-2 c = let a = c.before.before.before.before.args in left_of_0 (at a.s.now) a.id (at a.s.now 64) (λ z. c.before.if1.false (c.before.before.word.ensures ∙ z)) c.if2.true
 
 returns-3 : tie.Need-returns-3
 returns-3 c = let a = c.before.before.before.before.before.args in left-some (at a.s.now) a.id c.before.if2.false (at a.s.now 64) (λ z. c.before.before.if1.false (c.before.before.before.word.ensures ∙ z)) (λ z. c.if3.true (c.before.before.before.word.ensures ∙ z)) c.before.before.before.before.before.requires.1

@@ -5,13 +5,13 @@ use native.Mathlib.Omega.{arith}
 use lib.Dec.{eqb}
 use lib.ListN.{length}
 use Rattle.idset.specs.Set.{held}
-use Rattle.tracker.specs.Apply.{verdictOf}
-use Rattle.tracker.specs.Bridge.{confOf}
-use Rattle.invariants.specs.Check.{votersWalk, learnersWalk, stagedWalk, singleWalk}
+use Rattle.tracker.specs.Apply.{verdict_of}
+use Rattle.tracker.specs.Bridge.{conf_of}
+use Rattle.invariants.specs.Check.{voters_walk, learners_walk, staged_walk, single_walk}
 use Rattle.invariants.proofs.Parts.{at-voters, at-learners, at_rest}
 use Rattle.unplug.specs.Words.{at}
-use Rattle.unplug.specs.Unplugs.{stateIn}
-use Rattle.unplug.proofs.WordBlocks.{part-words, some_words}
+use Rattle.unplug.specs.Unplugs.{state_in}
+use Rattle.unplug.proofs.WordBlocks.{part_words, some_words}
 use borrow.Author.Rules.{rules}
 use Rattle.unplug.proofs.check.Statement.{statement}
 use Rattle.unplug.proofs.check.Tie as tie
@@ -59,9 +59,9 @@ returns : tie.Need-returns
 returns c =
     let ws = c.before.before.before.before.before.before.before.before.before.before.args.s.now in
     let long : length ws ≡ 967 = c.before.before.before.before.before.before.before.before.before.before.requires in
-    let v : c.before.before.check-voters.result ≡ verdictOf (votersWalk (held (stateIn ws).ids) (held (stateIn ws).conf.incoming) (held (stateIn ws).conf.outgoing)) =
-    rw (c.before.before.before.word3.ensures, c.before.before.before.before.before.word2.ensures, c.before.before.before.before.before.before.before.word.ensures, part-words 64 0 ws (omega arith), part-words 64 65 ws (omega arith), part-words 64 261 ws (omega arith)) at c.before.before.check-voters.ensures in
-    at-voters (held (stateIn ws).ids) (confOf (stateIn ws).conf) v c.if1.true
+    let v : c.before.before.check-voters.result ≡ verdict_of (voters_walk (held (state_in ws).ids) (held (state_in ws).conf.incoming) (held (state_in ws).conf.outgoing)) =
+    rw (c.before.before.before.word3.ensures, c.before.before.before.before.before.word2.ensures, c.before.before.before.before.before.before.before.word.ensures, part_words 64 0 ws (omega arith), part_words 64 65 ws (omega arith), part_words 64 261 ws (omega arith)) at c.before.before.check-voters.ensures in
+    at-voters (held (state_in ws).ids) (conf_of (state_in ws).conf) v c.if1.true
 
 sub-learners : tie.Need-overflow-sub-learners
 sub-learners c = search rules
@@ -82,11 +82,11 @@ returns-2 : tie.Need-returns-2
 returns-2 c =
     let ws = c.before.before.before.before.before.before.before.before.before.before.before.before.before.before.before.args.s.now in
     let long : length ws ≡ 967 = c.before.before.before.before.before.before.before.before.before.before.before.before.before.before.before.requires in
-    let v : c.before.before.before.before.before.before.before.check-voters.result ≡ verdictOf (votersWalk (held (stateIn ws).ids) (held (stateIn ws).conf.incoming) (held (stateIn ws).conf.outgoing)) =
-    rw (c.before.before.before.before.before.before.before.before.word3.ensures, c.before.before.before.before.before.before.before.before.before.before.word2.ensures, c.before.before.before.before.before.before.before.before.before.before.before.before.word.ensures, part-words 64 0 ws (omega arith), part-words 64 65 ws (omega arith), part-words 64 261 ws (omega arith)) at c.before.before.before.before.before.before.before.check-voters.ensures in
-    let l : c.before.before.check-learners.result ≡ verdictOf (learnersWalk (held (stateIn ws).ids) (held (stateIn ws).conf.incoming) (held (stateIn ws).conf.outgoing) (held (stateIn ws).conf.learners)) =
-    rw (c.before.before.before.word4.ensures, c.before.before.before.before.before.before.before.before.word3.ensures, c.before.before.before.before.before.before.before.before.before.before.word2.ensures, c.before.before.before.before.before.before.before.before.before.before.before.before.word.ensures, part-words 64 0 ws (omega arith), part-words 64 65 ws (omega arith), part-words 64 130 ws (omega arith), part-words 64 261 ws (omega arith)) at c.before.before.check-learners.ensures in
-    at-learners (held (stateIn ws).ids) (confOf (stateIn ws).conf) v c.before.before.before.before.before.if1.false l c.if2.true
+    let v : c.before.before.before.before.before.before.before.check-voters.result ≡ verdict_of (voters_walk (held (state_in ws).ids) (held (state_in ws).conf.incoming) (held (state_in ws).conf.outgoing)) =
+    rw (c.before.before.before.before.before.before.before.before.word3.ensures, c.before.before.before.before.before.before.before.before.before.before.word2.ensures, c.before.before.before.before.before.before.before.before.before.before.before.before.word.ensures, part_words 64 0 ws (omega arith), part_words 64 65 ws (omega arith), part_words 64 261 ws (omega arith)) at c.before.before.before.before.before.before.before.check-voters.ensures in
+    let l : c.before.before.check-learners.result ≡ verdict_of (learners_walk (held (state_in ws).ids) (held (state_in ws).conf.incoming) (held (state_in ws).conf.outgoing) (held (state_in ws).conf.learners)) =
+    rw (c.before.before.before.word4.ensures, c.before.before.before.before.before.before.before.before.word3.ensures, c.before.before.before.before.before.before.before.before.before.before.word2.ensures, c.before.before.before.before.before.before.before.before.before.before.before.before.word.ensures, part_words 64 0 ws (omega arith), part_words 64 65 ws (omega arith), part_words 64 130 ws (omega arith), part_words 64 261 ws (omega arith)) at c.before.before.check-learners.ensures in
+    at-learners (held (state_in ws).ids) (conf_of (state_in ws).conf) v c.before.before.before.before.before.if1.false l c.if2.true
 
 sub-staged : tie.Need-overflow-sub-staged
 sub-staged c = search rules
@@ -115,11 +115,11 @@ returns-3 c =
     let w3 = v.before.before.before.word3.ensures in
     let w2 = v.before.before.before.before.before.word2.ensures in
     let w1 = v.before.before.before.before.before.before.before.word.ensures in
-    at_rest (held (stateIn ws).ids) (confOf (stateIn ws).conf)
-    (rw (w3, w2, w1, part-words 64 0 ws (omega arith), part-words 64 65 ws (omega arith), part-words 64 261 ws (omega arith)) at v.before.before.check-voters.ensures) v.if1.false
-    (rw (l.before.before.before.word4.ensures, w3, w2, w1, part-words 64 0 ws (omega arith), part-words 64 65 ws (omega arith), part-words 64 130 ws (omega arith), part-words 64 261 ws (omega arith)) at l.before.before.check-learners.ensures)
+    at_rest (held (state_in ws).ids) (conf_of (state_in ws).conf)
+    (rw (w3, w2, w1, part_words 64 0 ws (omega arith), part_words 64 65 ws (omega arith), part_words 64 261 ws (omega arith)) at v.before.before.check-voters.ensures) v.if1.false
+    (rw (l.before.before.before.word4.ensures, w3, w2, w1, part_words 64 0 ws (omega arith), part_words 64 65 ws (omega arith), part_words 64 130 ws (omega arith), part_words 64 261 ws (omega arith)) at l.before.before.check-learners.ensures)
     l.if2.false
-    (rw (c.before.word6.ensures, c.before.before.word5.ensures, w3, w2, part-words 64 65 ws (omega arith), part-words 64 195 ws (omega arith), part-words 64 261 ws (omega arith)) at c.check-staged.ensures)
+    (rw (c.before.word6.ensures, c.before.before.word5.ensures, w3, w2, part_words 64 65 ws (omega arith), part_words 64 195 ws (omega arith), part_words 64 261 ws (omega arith)) at c.check-staged.ensures)
 
 pub check-spec : {M : Type 1} → statement M
 check-spec =

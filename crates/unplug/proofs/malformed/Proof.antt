@@ -3,12 +3,12 @@ use mathlib.Core.Path.{◌≡◌, ◌∙◌}
 use mathlib.Core.Bool.{true, false}
 use native.Mathlib.Omega.{arith}
 use lib.ListN.{drop}
-use Rattle.idset.specs.Set.{wellFormed}
+use Rattle.idset.specs.Set.{well_formed}
 use Rattle.idset.proofs.Bridge.{formed}
-use Rattle.tracker.specs.Form.{allUnused, confWellFormed, trackerWellFormed}
-use Rattle.unplug.specs.Words.{at, recordsBy, setBy}
-use Rattle.unplug.proofs.WordBlocks.{part-words, records-64, records-zeros}
-use Rattle.unplug.proofs.Unplugged.{records-active, records-paused, told-ill, told-well}
+use Rattle.tracker.specs.Form.{all_unused, conf_well_formed, tracker_well_formed}
+use Rattle.unplug.specs.Words.{at, records_by, set_by}
+use Rattle.unplug.proofs.WordBlocks.{part_words, records_64, records-zeros}
+use Rattle.unplug.proofs.Unplugged.{records_active, records_paused, told_ill, told_well}
 use borrow.Author.Rules.{rules}
 use Rattle.unplug.proofs.malformed.Statement.{statement}
 use Rattle.unplug.proofs.malformed.Tie as tie
@@ -17,60 +17,60 @@ malformed-at-requires : tie.Need-malformed-at-requires
 malformed-at-requires c κs = search rules
 
 returns : tie.Need-returns
-unfolding trackerWellFormed confWellFormed
+unfolding tracker_well_formed conf_well_formed
 returns c =
     let ws = c.before.before.before.args.s.now in
-    let ill : wellFormed (setBy (at ws) 0) ≡ false = told-ill c.before.malformed-at.ensures c.if1.true in
+    let ill : well_formed (set_by (at ws) 0) ≡ false = told_ill c.before.malformed-at.ensures c.if1.true in
     rw (ill)
 
 malformed-at-requires-2 : tie.Need-malformed-at-requires-2
 malformed-at-requires-2 c κs = search rules
 
 returns-2 : tie.Need-returns-2
-unfolding trackerWellFormed confWellFormed
+unfolding tracker_well_formed conf_well_formed
 returns-2 c =
     let ws = c.before.before.before.before.before.args.s.now in
-    let w1 : wellFormed (setBy (at ws) 0) ≡ true = told-well c.before.before.before.malformed-at.ensures c.before.before.if1.false in
-    let ill : wellFormed (setBy (at ws) 65) ≡ false = told-ill c.before.malformed-at2.ensures c.if2.true in
+    let w1 : well_formed (set_by (at ws) 0) ≡ true = told_well c.before.before.before.malformed-at.ensures c.before.before.if1.false in
+    let ill : well_formed (set_by (at ws) 65) ≡ false = told_ill c.before.malformed-at2.ensures c.if2.true in
     rw (w1, ill)
 
 malformed-at-requires-3 : tie.Need-malformed-at-requires-3
 malformed-at-requires-3 c κs = search rules
 
 returns-3 : tie.Need-returns-3
-unfolding trackerWellFormed confWellFormed
+unfolding tracker_well_formed conf_well_formed
 returns-3 c =
     let ws = c.before.before.before.before.before.before.before.args.s.now in
-    let w1 : wellFormed (setBy (at ws) 0) ≡ true = told-well c.before.before.before.before.before.malformed-at.ensures c.before.before.before.before.if1.false in
-    let w2 : wellFormed (setBy (at ws) 65) ≡ true = told-well c.before.before.before.malformed-at2.ensures c.before.before.if2.false in
-    let ill : wellFormed (setBy (at ws) 130) ≡ false = told-ill c.before.malformed-at3.ensures c.if3.true in
+    let w1 : well_formed (set_by (at ws) 0) ≡ true = told_well c.before.before.before.before.before.malformed-at.ensures c.before.before.before.before.if1.false in
+    let w2 : well_formed (set_by (at ws) 65) ≡ true = told_well c.before.before.before.malformed-at2.ensures c.before.before.if2.false in
+    let ill : well_formed (set_by (at ws) 130) ≡ false = told_ill c.before.malformed-at3.ensures c.if3.true in
     rw (w1, w2, ill)
 
 malformed-at-requires-4 : tie.Need-malformed-at-requires-4
 malformed-at-requires-4 c κs = search rules
 
 returns-4 : tie.Need-returns-4
-unfolding trackerWellFormed confWellFormed
+unfolding tracker_well_formed conf_well_formed
 returns-4 c =
     let ws = c.before.before.before.before.before.before.before.before.before.args.s.now in
-    let w1 : wellFormed (setBy (at ws) 0) ≡ true = told-well c.before.before.before.before.before.before.before.malformed-at.ensures c.before.before.before.before.before.before.if1.false in
-    let w2 : wellFormed (setBy (at ws) 65) ≡ true = told-well c.before.before.before.before.before.malformed-at2.ensures c.before.before.before.before.if2.false in
-    let w3 : wellFormed (setBy (at ws) 130) ≡ true = told-well c.before.before.before.malformed-at3.ensures c.before.before.if3.false in
-    let ill : wellFormed (setBy (at ws) 195) ≡ false = told-ill c.before.malformed-at4.ensures c.if4.true in
+    let w1 : well_formed (set_by (at ws) 0) ≡ true = told_well c.before.before.before.before.before.before.before.malformed-at.ensures c.before.before.before.before.before.before.if1.false in
+    let w2 : well_formed (set_by (at ws) 65) ≡ true = told_well c.before.before.before.before.before.malformed-at2.ensures c.before.before.before.before.if2.false in
+    let w3 : well_formed (set_by (at ws) 130) ≡ true = told_well c.before.before.before.malformed-at3.ensures c.before.before.if3.false in
+    let ill : well_formed (set_by (at ws) 195) ≡ false = told_ill c.before.malformed-at4.ensures c.if4.true in
     rw (w1, w2, w3, ill)
 
 malformed-at-requires-5 : tie.Need-malformed-at-requires-5
 malformed-at-requires-5 c κs = search rules
 
 returns-5 : tie.Need-returns-5
-unfolding trackerWellFormed confWellFormed
+unfolding tracker_well_formed conf_well_formed
 returns-5 c =
     let ws = c.before.before.before.before.before.before.before.before.before.before.before.args.s.now in
-    let w1 : wellFormed (setBy (at ws) 0) ≡ true = told-well c.before.before.before.before.before.before.before.before.before.malformed-at.ensures c.before.before.before.before.before.before.before.before.if1.false in
-    let w2 : wellFormed (setBy (at ws) 65) ≡ true = told-well c.before.before.before.before.before.before.before.malformed-at2.ensures c.before.before.before.before.before.before.if2.false in
-    let w3 : wellFormed (setBy (at ws) 130) ≡ true = told-well c.before.before.before.before.before.malformed-at3.ensures c.before.before.before.before.if3.false in
-    let w4 : wellFormed (setBy (at ws) 195) ≡ true = told-well c.before.before.before.malformed-at4.ensures c.before.before.if4.false in
-    let ill : wellFormed (setBy (at ws) 261) ≡ false = told-ill c.before.malformed-at5.ensures c.if5.true in
+    let w1 : well_formed (set_by (at ws) 0) ≡ true = told_well c.before.before.before.before.before.before.before.before.before.malformed-at.ensures c.before.before.before.before.before.before.before.before.if1.false in
+    let w2 : well_formed (set_by (at ws) 65) ≡ true = told_well c.before.before.before.before.before.before.before.malformed-at2.ensures c.before.before.before.before.before.before.if2.false in
+    let w3 : well_formed (set_by (at ws) 130) ≡ true = told_well c.before.before.before.before.before.malformed-at3.ensures c.before.before.before.before.if3.false in
+    let w4 : well_formed (set_by (at ws) 195) ≡ true = told_well c.before.before.before.malformed-at4.ensures c.before.before.if4.false in
+    let ill : well_formed (set_by (at ws) 261) ≡ false = told_ill c.before.malformed-at5.ensures c.if5.true in
     rw (w1, w2, w3, w4, ill)
 
 word-requires : tie.Need-word-requires
@@ -87,24 +87,24 @@ part-zero-from-end c = search rules
 
 mul-zero-from : tie.Need-overflow-mul-zero-from
 mul-zero-from c =
-    let ok : wellFormed (setBy (at c.before.before.before.before.before.before.before.before.before.before.before.before.before.args.s.now) 261) ≡ true = told-well c.before.before.before.malformed-at5.ensures c.before.before.if5.false in
-    omega (arith, c.before.word.ensures, (formed (setBy (at c.before.before.before.before.before.before.before.before.before.before.before.before.before.args.s.now) 261) ok).room)
+    let ok : well_formed (set_by (at c.before.before.before.before.before.before.before.before.before.before.before.before.before.args.s.now) 261) ≡ true = told_well c.before.before.before.malformed-at5.ensures c.before.before.if5.false in
+    omega (arith, c.before.word.ensures, (formed (set_by (at c.before.before.before.before.before.before.before.before.before.before.before.before.before.args.s.now) 261) ok).room)
 
 zero-from-requires : tie.Need-zero-from-requires
 zero-from-requires c κs = search rules
 
 returns-6 : tie.Need-returns-6
-unfolding trackerWellFormed confWellFormed
+unfolding tracker_well_formed conf_well_formed
 returns-6 c =
     let ws = c.before.before.before.before.before.before.before.before.before.before.before.before.before.before.args.s.now in
-    let w1 : wellFormed (setBy (at ws) 0) ≡ true = told-well c.before.before.before.before.before.before.before.before.before.before.before.before.malformed-at.ensures c.before.before.before.before.before.before.before.before.before.before.before.if1.false in
-    let w2 : wellFormed (setBy (at ws) 65) ≡ true = told-well c.before.before.before.before.before.before.before.before.before.before.malformed-at2.ensures c.before.before.before.before.before.before.before.before.before.if2.false in
-    let w3 : wellFormed (setBy (at ws) 130) ≡ true = told-well c.before.before.before.before.before.before.before.before.malformed-at3.ensures c.before.before.before.before.before.before.before.if3.false in
-    let w4 : wellFormed (setBy (at ws) 195) ≡ true = told-well c.before.before.before.before.before.before.malformed-at4.ensures c.before.before.before.before.before.if4.false in
-    let w5 : wellFormed (setBy (at ws) 261) ≡ true = told-well c.before.before.before.before.malformed-at5.ensures c.before.before.before.if5.false in
-    let rest : c.zero-from.result ≡ allUnused (drop (at ws 325) (recordsBy 64 (at ws) 326)) =
-    rw (c.before.before.word.ensures, part-words 640 326 ws (omega (arith, c.before.before.before.before.before.before.before.before.before.before.before.before.before.before.requires.0))) at c.zero-from.ensures ∙ records-zeros (at ws) 64 (at ws 325) 326 (records-paused ws c.before.before.before.before.before.before.before.before.before.before.before.before.before.before.requires.1) (records-active ws c.before.before.before.before.before.before.before.before.before.before.before.before.before.before.requires.1) in
-    rw (w1, w2, w3, w4, w5, records-64 (at ws) 326, rest)
+    let w1 : well_formed (set_by (at ws) 0) ≡ true = told_well c.before.before.before.before.before.before.before.before.before.before.before.before.malformed-at.ensures c.before.before.before.before.before.before.before.before.before.before.before.if1.false in
+    let w2 : well_formed (set_by (at ws) 65) ≡ true = told_well c.before.before.before.before.before.before.before.before.before.before.malformed-at2.ensures c.before.before.before.before.before.before.before.before.before.if2.false in
+    let w3 : well_formed (set_by (at ws) 130) ≡ true = told_well c.before.before.before.before.before.before.before.before.malformed-at3.ensures c.before.before.before.before.before.before.before.if3.false in
+    let w4 : well_formed (set_by (at ws) 195) ≡ true = told_well c.before.before.before.before.before.before.malformed-at4.ensures c.before.before.before.before.before.if4.false in
+    let w5 : well_formed (set_by (at ws) 261) ≡ true = told_well c.before.before.before.before.malformed-at5.ensures c.before.before.before.if5.false in
+    let rest : c.zero_from.result ≡ all_unused (drop (at ws 325) (records_by 64 (at ws) 326)) =
+    rw (c.before.before.word.ensures, part_words 640 326 ws (omega (arith, c.before.before.before.before.before.before.before.before.before.before.before.before.before.before.requires.0))) at c.zero_from.ensures ∙ records-zeros (at ws) 64 (at ws 325) 326 (records_paused ws c.before.before.before.before.before.before.before.before.before.before.before.before.before.before.requires.1) (records_active ws c.before.before.before.before.before.before.before.before.before.before.before.before.before.before.requires.1) in
+    rw (w1, w2, w3, w4, w5, records_64 (at ws) 326, rest)
 
 pub malformed-spec : {M : Type 1} → statement M
 malformed-spec =

@@ -2,7 +2,7 @@
 use Prim.Native.Nat.{◌+◌, ◌-◌}
 use mathlib.Core.Path.{◌≡◌}
 use native.Mathlib.Omega.{arith}
-use Rattle.unplug.proofs.WordBlocks.{part-words}
+use Rattle.unplug.proofs.WordBlocks.{part_words}
 use borrow.Author.Rules.{rules}
 use Rattle.unplug.proofs.malformed_at.Statement.{statement}
 use Rattle.unplug.proofs.malformed_at.Tie as tie
@@ -35,7 +35,7 @@ returns : tie.Need-returns
 returns c =
     let a = c.before.before.before.before.args in
     let long : a.k + 64 - a.k ≡ 64 = omega arith in
-    rw (long, part-words 64 a.k a.s.now c.before.before.before.before.requires, c.before.word.ensures) at c.malformed-in.ensures
+    rw (long, part_words 64 a.k a.s.now c.before.before.before.before.requires, c.before.word.ensures) at c.malformed_in.ensures
 
 pub malformed-at-spec : {M : Type 1} → statement M
 malformed-at-spec =

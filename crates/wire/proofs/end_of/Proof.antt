@@ -2,7 +2,7 @@
 use Prim.Native.Nat.{◌-◌}
 use lib.ListN.{length}
 use borrow.Author.Rules.{rules}
-use Rattle.wire.proofs.Reading.{Seeking, seek-start, seek_found, seek-next, seek-none}
+use Rattle.wire.proofs.Reading.{Seeking, seek_start, seek_found, seek_next, seek_none}
 use Rattle.wire.proofs.end_of.Statement.{statement}
 use Rattle.wire.proofs.end_of.Tie as tie
 
@@ -13,7 +13,7 @@ abbrev decreases-loop : tie.decreases-loop
 decreases-loop bytes at p₀ p = length bytes - p
 
 loop-holds : tie.Need-loop-init invariant-loop decreases-loop
-loop-holds c = search (rules, seek-start)
+loop-holds c = search (rules, seek_start)
 
 shared-slice-read-if1 : tie.Need-shared-slice-read-if1 invariant-loop decreases-loop
 shared-slice-read-if1 c = search rules
@@ -31,10 +31,10 @@ loop-less : tie.Need-loop-smaller invariant-loop decreases-loop
 loop-less c = search rules
 
 loop-again : tie.Need-loop-preserved invariant-loop decreases-loop
-loop-again c = search (rules, seek-next)
+loop-again c = search (rules, seek_next)
 
 returns-2 : tie.Need-returns-2 invariant-loop decreases-loop
-returns-2 c = search (rules, seek-none)
+returns-2 c = search (rules, seek_none)
 
 pub end-of-spec : {M : Type 1} → statement M
 end-of-spec =

@@ -3,7 +3,7 @@ use Prim.Native.Nat.{◌-◌, ◌<◌}
 use native.Mathlib.Omega.{arith}
 use lib.ListN.{get_or}
 use borrow.Author.Rules.{rules}
-use Rattle.wire.proofs.Reading.{Reading, read-start, read-cut, read-value, read_next, unit-small, sum-small, sum_more, nine-within, nine-then}
+use Rattle.wire.proofs.Reading.{Reading, read-start, read-cut, read-value, read_next, unit_small, sum_small, sum_more, nine_within, nine_then}
 use Rattle.wire.proofs.front.Statement.{statement}
 use Rattle.wire.proofs.front.Tie as tie
 
@@ -26,10 +26,10 @@ cast-b : tie.Need-overflow-cast-b invariant-loop decreases-loop
 cast-b c = omega (arith, c.shared-slice-known2.given c.before.before.before.loop.i)
 
 mul-t10 : tie.Need-overflow-mul-t10 invariant-loop decreases-loop
-mul-t10 c = omega (arith, sum-small c.before.before.before.before.loop.invariant c.before.before.before.loop-test.true c.if2.true)
+mul-t10 c = omega (arith, sum_small c.before.before.before.before.loop.invariant c.before.before.before.loop-test.true c.if2.true)
 
 add-t11 : tie.Need-overflow-add-t11 invariant-loop decreases-loop
-add-t11 c = omega (arith, sum-small c.before.before.before.before.loop.invariant c.before.before.before.loop-test.true c.if2.true)
+add-t11 c = omega (arith, sum_small c.before.before.before.before.loop.invariant c.before.before.before.loop-test.true c.if2.true)
 
 add-t12 : tie.Need-overflow-add-t12 invariant-loop decreases-loop
 add-t12 c = search rules
@@ -48,7 +48,7 @@ add-value : tie.Need-overflow-add-value invariant-loop decreases-loop
 add-value c = omega (arith, sum_more c.before.before.before.before.loop.invariant c.before.before.before.loop-test.true c.if2.false (byte c))
 
 mul-unit : tie.Need-overflow-mul-unit invariant-loop decreases-loop
-mul-unit c = omega (arith, unit-small c.before.before.before.before.loop.invariant c.before.before.before.loop-test.true)
+mul-unit c = omega (arith, unit_small c.before.before.before.before.loop.invariant c.before.before.before.loop-test.true)
 
 add-i : tie.Need-overflow-add-i invariant-loop decreases-loop
 add-i c = search rules
@@ -60,10 +60,10 @@ loop-again : tie.Need-loop-preserved invariant-loop decreases-loop
 loop-again c = read_next c.before.before.before.before.loop.invariant c.before.before.if1.false c.before.before.before.loop-test.true c.if2.false (byte c)
 
 tenth-requires : tie.Need-tenth-requires invariant-loop decreases-loop
-tenth-requires c κs = nine-within c.before.loop.invariant c.loop-test.false
+tenth-requires c κs = nine_within c.before.loop.invariant c.loop-test.false
 
 returns-3 : tie.Need-returns-3 invariant-loop decreases-loop
-returns-3 c = search (rules, nine-then)
+returns-3 c = search (rules, nine_then)
 
 pub front-spec : {M : Type 1} → statement M
 front-spec =

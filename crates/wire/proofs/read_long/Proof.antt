@@ -3,9 +3,9 @@ use Prim.Native.Nat.{◌+◌}
 use mathlib.Core.Path.{◌≡◌}
 use native.Mathlib.Omega.{arith}
 use borrow.Author.Rules.{rules}
-use Rattle.wire.specs.Varints.{varintAt}
+use Rattle.wire.specs.Varints.{varint_at}
 use Rattle.wire.specs.declared.Varint.{Varint}
-use Rattle.wire.proofs.Reading.{read-on, next-within}
+use Rattle.wire.proofs.Reading.{read_on, next-within}
 use Rattle.wire.proofs.read_long.Statement.{statement}
 use Rattle.wire.proofs.read_long.Tie as tie
 
@@ -23,8 +23,8 @@ front-requires c κs = search rules
 
 -- the struct with its place moved
 on : (c : tie.After-struct-known) → let g = c.before.before.before.before.args in let v = c.before.front.result in
-    ◌≡◌ {A = Varint} (record { fault = v.fault; value = v.value; next = g.at + v.next }) (varintAt g.bytes.now g.at)
-on c = let g = c.before.before.before.before.args in read-on g.bytes.now g.at c.before.front.ensures
+    ◌≡◌ {A = Varint} (record { fault = v.fault; value = v.value; next = g.at + v.next }) (varint_at g.bytes.now g.at)
+on c = let g = c.before.before.before.before.args in read_on g.bytes.now g.at c.before.front.ensures
 
 add-t5 : tie.Need-overflow-add-t5
 add-t5 c = let g = c.before.before.before.before.args in omega (arith, next-within g.bytes.now g.at (on c) c.before.before.before.before.requires)

@@ -3,7 +3,7 @@ use Prim.Native.Nat.{◌+◌, ◌<◌}
 use native.Mathlib.Omega.{arith}
 use lib.ListN.{get_or}
 use borrow.Author.Rules.{rules}
-use Rattle.wire.proofs.Reading.{short_none, short-one, short-two}
+use Rattle.wire.proofs.Reading.{short_none, short-one, short_two}
 use Rattle.wire.proofs.read_varint.Statement.{statement}
 use Rattle.wire.proofs.read_varint.Tie as tie
 
@@ -53,7 +53,7 @@ returns-4 : tie.Need-returns-4
 returns-4 c =
     let g = c.before.before.before.before.before.before.before.args in
     let b : get_or g.bytes.now g.at 0 < 256 = omega (arith, c.before.before.before.before.shared-slice-known2.given g.at) in
-    short-two g.bytes.now g.at c.before.before.before.before.before.if1.false c.before.before.before.if2.false b c.before.before.if3.false c.if4.true
+    short_two g.bytes.now g.at c.before.before.before.before.before.if1.false c.before.before.before.if2.false b c.before.before.if3.false c.if4.true
 
 read-long-requires-2 : tie.Need-read-long-requires-2
 read-long-requires-2 c κs = search rules

@@ -1,12 +1,12 @@
 -- `wire::tenth` meets its contract. Assumes nothing.
 use native.Mathlib.Omega.{arith}
 use borrow.Author.Rules.{rules}
-use Rattle.wire.proofs.Reading.{tenth-none, tenth-value, tenth-cut, tenth-over}
+use Rattle.wire.proofs.Reading.{tenth_none, tenth-value, tenth-cut, tenth_over}
 use Rattle.wire.proofs.tenth.Statement.{statement}
 use Rattle.wire.proofs.tenth.Tie as tie
 
 returns : tie.Need-returns
-returns c = search (rules, tenth-none)
+returns c = search (rules, tenth_none)
 
 shared-slice-read-b : tie.Need-shared-slice-read-b
 shared-slice-read-b c = search rules
@@ -30,7 +30,7 @@ returns-3 : tie.Need-returns-3
 returns-3 c = search (rules, tenth-cut)
 
 returns-4 : tie.Need-returns-4
-returns-4 c = search (rules, tenth-over)
+returns-4 c = search (rules, tenth_over)
 
 pub tenth-spec : {M : Type 1} → statement M
 tenth-spec =

@@ -2,8 +2,8 @@
 use Prim.Native.Nat.{ℕ, ◌-◌, ◌+◌, ◌*◌}
 use mathlib.Core.Path.{refl, ap, ◌∙◌}
 use borrow.Author.Rules.{rules}
-use Rattle.calls.specs.Layout.{kindNamed}
-use Rattle.calls.proofs.ReadFilled.{Filled, entry_at, fill_start, fill-next, entries-end}
+use Rattle.calls.specs.Layout.{kind_named}
+use Rattle.calls.proofs.ReadFilled.{Filled, entry_at, fill_start, fill_next, entries_end}
 use Rattle.calls.proofs.read.entries_at.Statement.{statement}
 use Rattle.calls.proofs.read.entries_at.Tie as tie
 
@@ -55,11 +55,11 @@ loop-less c = search rules
 loop-again : tie.Need-loop-preserved invariant-loop decreases-loop
 loop-again c =
     let at = c.before.before.before.before.loop in
-    let name = c.before.kind-named.ensures ∙ ap (λ (w : ℕ). kindNamed w) c.before.before.word.ensures in
-    fill-next at.invariant (c.before.before.before.before.before.before.args.k + 2 * at.i) c.before.before.before.loop-test.true refl (λ j. record { id = c.word2.ensures j; kind = name j })
+    let name = c.before.kind-named.ensures ∙ ap (λ (w : ℕ). kind_named w) c.before.before.word.ensures in
+    fill_next at.invariant (c.before.before.before.before.before.before.args.k + 2 * at.i) c.before.before.before.loop-test.true refl (λ j. record { id = c.word2.ensures j; kind = name j })
 
 returns : tie.Need-returns invariant-loop decreases-loop
-returns c = entries-end c.before.before.before.args.s.now c.before.loop.invariant c.loop-test.false
+returns c = entries_end c.before.before.before.args.s.now c.before.loop.invariant c.loop-test.false
 
 pub entries-at-spec : {M : Type 1} → statement M
 entries-at-spec =

@@ -3,7 +3,7 @@ use Prim.Native.Nat.{◌+◌, ◌-◌}
 use native.Mathlib.Omega.{arith}
 use borrow.Author.Rules.{rules}
 use Rattle.calls.specs.Layout.{word}
-use Rattle.calls.proofs.ReadFilled.{Filled, fill_start, fill-next, words-end}
+use Rattle.calls.proofs.ReadFilled.{Filled, fill_start, fill_next, words-end}
 use Rattle.calls.proofs.read.ids_at.Statement.{statement}
 use Rattle.calls.proofs.read.ids_at.Tie as tie
 
@@ -35,7 +35,7 @@ loop-less : tie.Need-loop-smaller invariant-loop decreases-loop
 loop-less c = search rules
 
 loop-again : tie.Need-loop-preserved invariant-loop decreases-loop
-loop-again c = fill-next c.before.before.loop.invariant (c.before.before.before.before.args.k + c.before.before.loop.i) c.before.loop-test.true (omega arith) c.word.ensures
+loop-again c = fill_next c.before.before.loop.invariant (c.before.before.before.before.args.k + c.before.before.loop.i) c.before.loop-test.true (omega arith) c.word.ensures
 
 returns : tie.Need-returns invariant-loop decreases-loop
 returns c = words-end c.before.before.before.args.s.now c.before.loop.invariant c.loop-test.false

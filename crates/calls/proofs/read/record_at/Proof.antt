@@ -1,7 +1,7 @@
 -- `calls::read::record_at` meets its contract: each field is its word. Assumes nothing.
 use Prim.Native.Nat.{ℕ}
 use mathlib.Core.Path.{ap, ◌∙◌}
-use Rattle.unplug.specs.Words.{flag, stateNamed}
+use Rattle.unplug.specs.Words.{flag, state_named}
 use borrow.Author.Rules.{rules}
 use Rattle.calls.proofs.read.record_at.Statement.{statement}
 use Rattle.calls.proofs.read.record_at.Tie as tie
@@ -68,7 +68,7 @@ word-requires-10 c κs = search rules
 
 returns : tie.Need-returns
 returns c =
-    let name = c.before.before.before.before.before.before.before.before.before.state-named.ensures ∙ ap (λ (w : ℕ). stateNamed w) c.before.before.before.before.before.before.before.before.before.before.word.ensures in
+    let name = c.before.before.before.before.before.before.before.before.before.state-named.ensures ∙ ap (λ (w : ℕ). state_named w) c.before.before.before.before.before.before.before.before.before.before.word.ensures in
     λ j. record {
       matched = c.before.before.before.before.before.before.before.before.word2.ensures j;
       next_idx = c.before.before.before.before.before.before.before.word3.ensures j;

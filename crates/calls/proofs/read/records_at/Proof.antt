@@ -2,13 +2,13 @@
 use Prim.Native.Nat.{◌+◌, ◌*◌, ◌-◌}
 use native.Mathlib.Omega.{arith}
 use borrow.Author.Rules.{rules}
-use Rattle.calls.specs.Layout.{recordAt}
-use Rattle.calls.proofs.ReadFilled.{Filled, fill_start, fill-next, records-end}
+use Rattle.calls.specs.Layout.{record_at}
+use Rattle.calls.proofs.ReadFilled.{Filled, fill_start, fill_next, records-end}
 use Rattle.calls.proofs.read.records_at.Statement.{statement}
 use Rattle.calls.proofs.read.records_at.Tie as tie
 
 abbrev invariant-loop : tie.invariant-loop
-invariant-loop s k out₀ i₀ out i = Filled 64 (recordAt s) 10 k i out
+invariant-loop s k out₀ i₀ out i = Filled 64 (record_at s) 10 k i out
 
 abbrev decreases-loop : tie.decreases-loop
 decreases-loop s k out₀ i₀ out i = 64 - i
@@ -41,7 +41,7 @@ loop-less : tie.Need-loop-smaller invariant-loop decreases-loop
 loop-less c = search rules
 
 loop-again : tie.Need-loop-preserved invariant-loop decreases-loop
-loop-again c = fill-next c.before.before.loop.invariant (c.before.before.before.before.before.args.k + 10 * c.before.before.loop.i) c.before.loop-test.true (omega arith) c.record-at.ensures
+loop-again c = fill_next c.before.before.loop.invariant (c.before.before.before.before.before.args.k + 10 * c.before.before.loop.i) c.before.loop-test.true (omega arith) c.record-at.ensures
 
 returns : tie.Need-returns invariant-loop decreases-loop
 returns c = records-end c.before.before.before.before.args.s.now c.before.loop.invariant c.loop-test.false

@@ -27,7 +27,7 @@ same_length c = search rules
 returns : tie.Need-returns
 returns c =
     let s = c.before.before.before.before.before.before.before.before.before.before.before.before.before.before.before.before.before.before.before.before.before in
-    rw conf-bytes (rest-last (rest_put (rest_put (rest_put (rest_put (rest_all (omega (arith, s.well-formed, s.ranges)) (omega (arith, s.well-formed, s.ranges))) c.before.before.before.before.before.before.before.before.before.before.before.before.before.before.before.before.before.before.put-set.ensures) c.before.before.before.before.before.before.before.before.before.before.before.before.before.before.put-set2.ensures) c.before.before.before.before.before.before.before.before.before.before.put-set3.ensures) c.before.before.before.before.before.before.put-set4.ensures) c.before.before.put-flag.ensures)
+    rw conf-bytes (rest-last (rest_put (rest_put (rest_put (rest_put (rest_all (omega (arith, s.well_formed_lem, s.ranges)) (omega (arith, s.well_formed_lem, s.ranges))) c.before.before.before.before.before.before.before.before.before.before.before.before.before.before.before.before.before.before.put-set.ensures) c.before.before.before.before.before.before.before.before.before.before.before.before.before.before.put-set2.ensures) c.before.before.before.before.before.before.before.before.before.before.put-set3.ensures) c.before.before.before.before.before.before.put-set4.ensures) c.before.before.put-flag.ensures)
 
 pub put-conf-spec : {M : Type 1} → statement M
 put-conf-spec =

@@ -2,12 +2,12 @@
 use Prim.Native.Nat.{◌-◌}
 use borrow.Author.Rules.{rules}
 use native.Mathlib.Omega.{arith}
-use Rattle.calls.proofs.WriteWords.{entryBytes, each-entry, Walking, walk_start, walk-next, walk_end, walk-length}
+use Rattle.calls.proofs.WriteWords.{entry_bytes, each-entry, Walking, walk_start, walk_next, walk_end, walk_length}
 use Rattle.calls.proofs.write.put_entries.Statement.{statement}
 use Rattle.calls.proofs.write.put_entries.Tie as tie
 
 abbrev invariant-loop : tie.invariant-loop
-invariant-loop out₀ at entries p₀ i₀ out p i = Walking 256 entryBytes entries out₀ at out p i
+invariant-loop out₀ at entries p₀ i₀ out p i = Walking 256 entry_bytes entries out₀ at out p i
 
 abbrev decreases-loop : tie.decreases-loop
 decreases-loop out₀ at entries p₀ i₀ out p i = 256 - i
@@ -31,10 +31,10 @@ loop-less : tie.Need-loop-smaller invariant-loop decreases-loop
 loop-less c = search rules
 
 loop-again : tie.Need-loop-preserved invariant-loop decreases-loop
-loop-again c = search (rules, walk-next)
+loop-again c = search (rules, walk_next)
 
 same_length : tie.Need-same-length invariant-loop decreases-loop
-same_length c = search (rules, walk-length)
+same_length c = search (rules, walk_length)
 
 returns : tie.Need-returns invariant-loop decreases-loop
 returns c = rw each-entry at (walk_end c.before.loop.invariant c.loop-test.false)

@@ -21,7 +21,7 @@ same_length c = search rules
 returns : tie.Need-returns
 returns c =
     let s = c.before.before.before.before.before.before.before.before.before.before in
-    rw all-entry (rest-last (rest_put (rest_all (omega (arith, s.well-formed, s.ranges)) (omega (arith, s.well-formed, s.ranges))) c.before.before.before.before.before.before.before.put_word.ensures) (rw c.before.before.before.kind-word.ensures at c.before.before.put-word2.ensures))
+    rw all-entry (rest-last (rest_put (rest_all (omega (arith, s.well_formed_lem, s.ranges)) (omega (arith, s.well_formed_lem, s.ranges))) c.before.before.before.before.before.before.before.put_word.ensures) (rw c.before.before.before.kind-word.ensures at c.before.before.put-word2.ensures))
 
 pub put-entry-spec : {M : Type 1} → statement M
 put-entry-spec =

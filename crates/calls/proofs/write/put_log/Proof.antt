@@ -18,7 +18,7 @@ same_length c = search rules
 returns : tie.Need-returns
 returns c =
     let s = c.before.before.before.before.before.before.before.before.before.before in
-    rw log-bytes (rest-last (rest_put (rest_all (omega (arith, s.well-formed, s.ranges)) (omega (arith, s.well-formed, s.ranges))) c.before.before.before.before.before.before.put_entries.ensures) c.before.before.put_word.ensures)
+    rw log-bytes (rest-last (rest_put (rest_all (omega (arith, s.well_formed_lem, s.ranges)) (omega (arith, s.well_formed_lem, s.ranges))) c.before.before.before.before.before.before.put_entries.ensures) c.before.before.put_word.ensures)
 
 pub put-log-spec : {M : Type 1} → statement M
 put-log-spec =

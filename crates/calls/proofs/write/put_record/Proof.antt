@@ -1,6 +1,6 @@
 -- `calls::write::put_record` meets its contract. Assumes nothing.
 use borrow.Author.Rules.{rules}
-use Rattle.calls.specs.Reply.{recordWords}
+use Rattle.calls.specs.Reply.{record_words}
 use Rattle.calls.proofs.write.put_record.Statement.{statement}
 use Rattle.calls.proofs.write.put_record.Tie as tie
 
@@ -23,7 +23,7 @@ same_length : tie.Need-same-length
 same_length c = search rules
 
 returns : tie.Need-returns
-unfolding recordWords
+unfolding record_words
 returns c = rw (← c.before.before.before.before.before.before.before.state-word.ensures, ← c.before.before.before.before.before.before.flag_word.ensures, ← c.before.before.before.before.before.flag-word2.ensures) c.before.before.put-words.ensures
 
 pub put-record-spec : {M : Type 1} → statement M

@@ -2,12 +2,12 @@
 use Prim.Native.Nat.{◌-◌}
 use borrow.Author.Rules.{rules}
 use native.Mathlib.Omega.{arith}
-use Rattle.calls.proofs.WriteWords.{recordBytes, each-record, Walking, walk_start, walk-next, walk_end, walk-length}
+use Rattle.calls.proofs.WriteWords.{record_bytes, each_record, Walking, walk_start, walk_next, walk_end, walk_length}
 use Rattle.calls.proofs.write.put_records.Statement.{statement}
 use Rattle.calls.proofs.write.put_records.Tie as tie
 
 abbrev invariant-loop : tie.invariant-loop
-invariant-loop out₀ at records p₀ i₀ out p i = Walking 64 recordBytes records out₀ at out p i
+invariant-loop out₀ at records p₀ i₀ out p i = Walking 64 record_bytes records out₀ at out p i
 
 abbrev decreases-loop : tie.decreases-loop
 decreases-loop out₀ at records p₀ i₀ out p i = 64 - i
@@ -31,13 +31,13 @@ loop-less : tie.Need-loop-smaller invariant-loop decreases-loop
 loop-less c = search rules
 
 loop-again : tie.Need-loop-preserved invariant-loop decreases-loop
-loop-again c = search (rules, walk-next)
+loop-again c = search (rules, walk_next)
 
 same_length : tie.Need-same-length invariant-loop decreases-loop
-same_length c = search (rules, walk-length)
+same_length c = search (rules, walk_length)
 
 returns : tie.Need-returns invariant-loop decreases-loop
-returns c = rw each-record at (walk_end c.before.loop.invariant c.loop-test.false)
+returns c = rw each_record at (walk_end c.before.loop.invariant c.loop-test.false)
 
 pub put-records-spec : {M : Type 1} → statement M
 put-records-spec =

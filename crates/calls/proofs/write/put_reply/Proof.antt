@@ -33,7 +33,7 @@ same_length c = search rules
 returns : tie.Need-returns
 returns c =
     let s = c.before.before.before.before.before.before.before.before.before.before.before.before.before.before.before.before.before.before.before.before.before.before.before.before.before.before.before.before.before in
-    rw reply-bytes (rest-last (rest_put (rest_put (rest_put (rest_put (rest_put (rest_put (rest_all (omega (arith, s.well-formed)) (omega (arith, s.well-formed))) c.before.before.before.before.before.before.before.before.before.before.before.before.before.before.before.before.before.before.before.before.before.before.before.before.before.before.put_word.ensures) c.before.before.before.before.before.before.before.before.before.before.before.before.before.before.before.before.before.before.before.before.before.before.put-word2.ensures) c.before.before.before.before.before.before.before.before.before.before.before.before.before.before.before.before.before.before.put-flag.ensures) c.before.before.before.before.before.before.before.before.before.before.before.before.before.before.put-state.ensures) c.before.before.before.before.before.before.before.before.before.before.put-log.ensures) c.before.before.before.before.before.before.put-conf-state.ensures) c.before.before.put-word3.ensures)
+    rw reply-bytes (rest-last (rest_put (rest_put (rest_put (rest_put (rest_put (rest_put (rest_all (omega (arith, s.well_formed_lem)) (omega (arith, s.well_formed_lem))) c.before.before.before.before.before.before.before.before.before.before.before.before.before.before.before.before.before.before.before.before.before.before.before.before.before.before.put_word.ensures) c.before.before.before.before.before.before.before.before.before.before.before.before.before.before.before.before.before.before.before.before.before.before.put-word2.ensures) c.before.before.before.before.before.before.before.before.before.before.before.before.before.before.before.before.before.before.put-flag.ensures) c.before.before.before.before.before.before.before.before.before.before.before.before.before.before.put-state.ensures) c.before.before.before.before.before.before.before.before.before.before.put-log.ensures) c.before.before.before.before.before.before.put-conf-state.ensures) c.before.before.put-word3.ensures)
 
 pub put-reply-spec : {M : Type 1} → statement M
 put-reply-spec =

@@ -24,7 +24,7 @@ same_length c = search rules
 returns : tie.Need-returns
 returns c =
     let s = c.before.before.before.before.before.before.before.before.before.before.before.before.before.before.before.before.before.before in
-    rw state-bytes (rest-last (rest_put (rest_put (rest_put (rest_all (omega (arith, s.well-formed, s.ranges)) (omega (arith, s.well-formed, s.ranges))) c.before.before.before.before.before.before.before.before.before.before.before.before.before.before.before.put-conf.ensures) c.before.before.before.before.before.before.before.before.before.before.before.put-set.ensures) c.before.before.before.before.before.before.put-records.ensures) c.before.before.put_word.ensures)
+    rw state-bytes (rest-last (rest_put (rest_put (rest_put (rest_all (omega (arith, s.well_formed_lem, s.ranges)) (omega (arith, s.well_formed_lem, s.ranges))) c.before.before.before.before.before.before.before.before.before.before.before.before.before.before.before.put-conf.ensures) c.before.before.before.before.before.before.before.before.before.before.before.put-set.ensures) c.before.before.before.before.before.before.put-records.ensures) c.before.before.put_word.ensures)
 
 pub put-state-spec : {M : Type 1} → statement M
 put-state-spec =

@@ -2,7 +2,7 @@
 use Prim.Native.Nat.{◌-◌}
 use native.Mathlib.Omega.{arith}
 use borrow.Author.Rules.{rules}
-use Rattle.calls.proofs.WriteWords.{Spelling, spell-start, spell_next, spell-length, spell-end}
+use Rattle.calls.proofs.WriteWords.{Spelling, spell_start, spell_next, spell_length, spell_end}
 use Rattle.calls.proofs.write.put_word.Statement.{statement}
 use Rattle.calls.proofs.write.put_word.Tie as tie
 
@@ -13,7 +13,7 @@ abbrev decreases-loop : tie.decreases-loop
 decreases-loop out₀ at n p₀ rest₀ i₀ out p rest i = 8 - i
 
 loop-holds : tie.Need-loop-init invariant-loop decreases-loop
-loop-holds c = spell-start (omega arith) (omega arith)
+loop-holds c = spell_start (omega arith) (omega arith)
 
 cast-put-byte : tie.Need-overflow-cast-put-byte invariant-loop decreases-loop
 cast-put-byte c = omega arith
@@ -31,10 +31,10 @@ loop-again : tie.Need-loop-preserved invariant-loop decreases-loop
 loop-again c = search (rules, spell_next)
 
 same_length : tie.Need-same-length invariant-loop decreases-loop
-same_length c = search (rules, spell-length)
+same_length c = search (rules, spell_length)
 
 returns : tie.Need-returns invariant-loop decreases-loop
-returns c = search (rules, spell-end)
+returns c = search (rules, spell_end)
 
 pub put-word-spec : {M : Type 1} → statement M
 put-word-spec =

@@ -4,7 +4,7 @@ use native.Mathlib.Omega.{arith}
 use lib.ListN.{length}
 use borrow.Author.Rules.{rules}
 use Rattle.text.specs.Text.{each}
-use Rattle.text.proofs.Laws.{Passing, pass-start, pass-next, pass-end, pass-length}
+use Rattle.text.proofs.Laws.{Passing, pass_start, pass_next, pass_end, pass_length}
 use Rattle.calls.specs.Reply.{word_bytes}
 use Rattle.calls.proofs.WriteWords.{each_word}
 use Rattle.calls.proofs.write.put_words.Statement.{statement}
@@ -17,7 +17,7 @@ abbrev decreases-loop : tie.decreases-loop
 decreases-loop out₀ at ws p₀ i₀ out p i = length ws - i
 
 loop-holds : tie.Need-loop-init invariant-loop decreases-loop
-loop-holds c = pass-start (omega arith) (omega arith)
+loop-holds c = pass_start (omega arith) (omega arith)
 
 mul-put-word : tie.Need-overflow-mul-put-word invariant-loop decreases-loop
 mul-put-word c = search rules
@@ -35,13 +35,13 @@ loop-less : tie.Need-loop-smaller invariant-loop decreases-loop
 loop-less c = search rules
 
 loop-again : tie.Need-loop-preserved invariant-loop decreases-loop
-loop-again c = search (rules, pass-next)
+loop-again c = search (rules, pass_next)
 
 same_length : tie.Need-same-length invariant-loop decreases-loop
-same_length c = search (rules, pass-length)
+same_length c = search (rules, pass_length)
 
 returns : tie.Need-returns invariant-loop decreases-loop
-returns c = rw each_word at (pass-end c.before.loop.invariant c.loop-test.false)
+returns c = rw each_word at (pass_end c.before.loop.invariant c.loop-test.false)
 
 pub put-words-spec : {M : Type 1} → statement M
 put-words-spec =

@@ -54,7 +54,7 @@ use Rattle.changes.specs.contracts.pending.contains.Key.{name as #changes·pendi
 use Rattle.changes.specs.contracts.pending.contains as contains
 use Rattle.changes.proofs.pending.contains.Statement as stated
 use Rattle.changes.proofs.pending.contains.Code as code
-use Rattle.changes.specs.Pending.{trackedIn}
+use Rattle.changes.specs.Pending.{tracked_in}
 use Rattle.tracker.specs.declared.ChangeLog.{ChangeLog}
 use Rattle.tracker.specs.contracts.ChangeLog as G
 use Rattle.tracker.proofs.ChangeLog.TheLaws as G'
@@ -85,7 +85,7 @@ module _ {M : Type 1} {𝓤 : Ura M} (𝓛 : Logic 𝓤) (mem : Memory → SProp
   w = LL.val G.the_type G'.the_laws lg
 
   abbrev found : Bool
-  found = trackedIn d.base.now d.count lg i
+  found = tracked_in d.base.now d.count lg i
 
   abbrev at : Vals contains.signature (κ, tt)
   at = (mach ∷ [], (w ∷ [], (vint w64 i ∷ [], tt)))

@@ -54,7 +54,7 @@ use Rattle.changes.specs.contracts.pending.is_tracked.Key.{name as #changes·pen
 use Rattle.changes.specs.contracts.pending.is_tracked as is-tracked
 use Rattle.changes.proofs.pending.is_tracked.Statement as stated
 use Rattle.changes.proofs.pending.is_tracked.Code as code
-use Rattle.changes.specs.Pending.{trackedIn}
+use Rattle.changes.specs.Pending.{tracked_in}
 use Rattle.tracker.specs.declared.ChangeLog.{ChangeLog}
 use Rattle.tracker.specs.contracts.ChangeLog as G
 use Rattle.tracker.proofs.ChangeLog.TheLaws as G'
@@ -85,7 +85,7 @@ module _ {M : Type 1} {𝓤 : Ura M} (𝓛 : Logic 𝓤) (mem : Memory → SProp
   w = LL.val G.the_type G'.the_laws lg
 
   abbrev found : Bool
-  found = trackedIn s.now n lg i
+  found = tracked_in s.now n lg i
 
   abbrev at : Vals is-tracked.signature (κ, tt)
   at = (v ∷ [], (vint w64 n ∷ [], (w ∷ [], (vint w64 i ∷ [], tt))))
@@ -121,8 +121,8 @@ module _ {M : Type 1} {𝓤 : Ura M} (𝓛 : Logic 𝓤) (mem : Memory → SProp
   goes-contains : (r : Pending) (u : Val) → ent 𝓤 (⋆ 𝓛 (‵ ((B (κ, tt)).own_val r (u ∷ [])) ∷ (‵ (flft κ q) ⊛ ‵ ftrue) ∷ [])) ((Contains 𝓛 mem run).pre (to-contains r u))
   goes-contains r u = qed 𝓛 (‵ ((B (κ, tt)).own_val r (u ∷ [])) ∷ (‵ (flft κ q) ⊛ ‵ ftrue) ∷ []) ∵ nothing ! $ owned ! u64 (Is u64) (uint_Makes 𝓛 w64) i _ (refl, ifits) $ fjoin ! $ owned ! G.the_row (Is G.the_row) (LL.makes G.the_type G'.the_plain 𝓛) lg _ lis $ fjoin ! $ move ! (1 ∷ 0 ∷ []) $ fjoin ! $ move ! (1 ∷ 0 ∷ []) $ join ! $ frame ! $ done !
 
-  contains-said : (r : Pending) (t : Bool) → ent 𝓤 (ensured 𝓛 contains.ended (contains.clauses 𝓛 mem run) (κ, tt) (r, (lg, (i, tt))) tt t) (fact 𝓤 (t ≡ trackedIn r.base.now r.count lg i))
-  contains-said r t = ex_e 𝓤 _ (λ ws. snd∗ 𝓤 (sem 𝓛 (lasts contains.ended (κ, tt) (r, (lg, (i, tt))) ws)) (fact 𝓤 (t ≡ trackedIn r.base.now r.count lg i)))
+  contains-said : (r : Pending) (t : Bool) → ent 𝓤 (ensured 𝓛 contains.ended (contains.clauses 𝓛 mem run) (κ, tt) (r, (lg, (i, tt))) tt t) (fact 𝓤 (t ≡ tracked_in r.base.now r.count lg i))
+  contains-said r t = ex_e 𝓤 _ (λ ws. snd∗ 𝓤 (sem 𝓛 (lasts contains.ended (κ, tt) (r, (lg, (i, tt))) ws)) (fact 𝓤 (t ≡ tracked_in r.base.now r.count lg i)))
 
   exits : (t : Bool) (u : Val) → t ≡ found → ent 𝓤 (⋆ 𝓛 (‵ (bool.own_val t (u ∷ [])) ∷ (‵ (flft κ q) ⊛ ‵ ftrue) ∷ ‵ Own ∷ [])) (Post u)
   exits t u e =
@@ -147,13 +147,13 @@ module _ {M : Type 1} {𝓤 : Ura M} (𝓛 : Logic 𝓤) (mem : Memory → SProp
         use2 𝓛 (raw ((Contains 𝓛 mem run).pre (to-contains r u))) (goes-contains r u) $
         calls_at ! fm (Contains 𝓛 mem run) known-contains (to-contains r u) (and_then ! (load ! (from ! (stop !)) (look ! 2 refl)) (and_then ! (load ! (from ! (stop !)) (look ! 6 refl)) (and_then ! (load ! (from ! (stop !)) (look ! 4 refl)) (no_more !)))) (λ u'.
         use1 𝓛 (later (some (λ (t : Bool). ((‵ (flft κ q) ⊛ ‵ ftrue) ⊛ ‵ (bool.own_val t (u' ∷ []))) ⊛ raw (ensured 𝓛 contains.ended (contains.clauses 𝓛 mem run) (κ, tt) (r, (lg, (i, tt))) tt t)))) (id⊢ 𝓤 _) $ await ! tt $ pick ! (λ t.
-        split ! $ move ! (1 ∷ []) $ use1 𝓛 (raw (fact 𝓤 (t ≡ trackedIn r.base.now r.count lg i))) (contains-said r t) $ heard ! (t ≡ trackedIn r.base.now r.count lg i) (λ e'. split ! $ move ! (1 ∷ []) $
+        split ! $ move ! (1 ∷ []) $ use1 𝓛 (raw (fact 𝓤 (t ≡ tracked_in r.base.now r.count lg i))) (contains-said r t) $ heard ! (t ≡ tracked_in r.base.now r.count lg i) (λ e'. split ! $ move ! (1 ∷ []) $
         -- [the result; the token; what s owns; _5; …; _4; …; _3; …; _2; …; _1; …; room for _0; …]
         peeks ! bool (Is bool) (shows 𝓛 bool) t (u' ∷ []) (λ is'.
         land ! (from ! (stop !)) (init ! 13 refl ((bool_Lawful 𝓛).typed t _ is').0) $
         returns ! (look ! 13 refl) $ forget ! 3 refl $ forget ! 5 refl $ forget ! 7 refl $ forget ! 9 refl $ forget ! 11 refl $ forget ! 13 refl $
         move ! (13 ∷ 14 ∷ []) $ free1 ! $ move ! (11 ∷ 12 ∷ []) $ free1 ! $ move ! (9 ∷ 10 ∷ []) $ free1 ! $ move ! (7 ∷ 8 ∷ []) $ free1 ! $ move ! (5 ∷ 6 ∷ []) $ free1 ! $ move ! (3 ∷ 4 ∷ []) $ free1 ! $ free0 ! $
-        by ! (exits t u' (e' ∙ (ap (λ (x : Bor (List ℕ)). trackedIn x.now r.count lg i) e.0 ∙ ap (λ (m : ℕ). trackedIn s.now m lg i) e.1)))))))))))))))))
+        by ! (exits t u' (e' ∙ (ap (λ (x : Bor (List ℕ)). tracked_in x.now r.count lg i) e.0 ∙ ap (λ (m : ℕ). tracked_in s.now m lg i) e.1)))))))))))))))))
 
 module _ {M : Type 1} {𝓤 : Ura M} (𝓛 : Logic 𝓤) (mem : Memory → SProp 𝓤) (run : Routine → Fun 𝓤) where
   open 𝓛 use {H}

@@ -4,8 +4,8 @@ use Prim.Native.Nat.{◌-◌, ◌<◌}
 use native.Mathlib.Omega.{arith}
 use mathlib.Core.Path.{refl}
 use borrow.Author.Rules.{rules}
-use Rattle.changes.proofs.Sizes.{log-sized}
-use Rattle.changes.proofs.Log.{Saying, says-end, says-out, says-next}
+use Rattle.changes.proofs.Sizes.{log_sized}
+use Rattle.changes.proofs.Log.{Saying, says-end, says_out, says-next}
 use Rattle.changes.proofs.pending.says.Statement.{statement}
 use Rattle.changes.proofs.pending.says.Tie as tie
 
@@ -16,7 +16,7 @@ abbrev decreases-loop : tie.decreases-loop
 decreases-loop count id known log answer₀ i₀ answer i = 256 - i
 
 loop-holds : tie.Need-loop-init invariant-loop decreases-loop
-loop-holds c = record { sized = log-sized c.args.t1 c.well-formed.0; same = refl }
+loop-holds c = record { sized = log_sized c.args.t1 c.well_formed_lem.0; same = refl }
 
 returns : tie.Need-returns invariant-loop decreases-loop
 returns c = says-end c.before.before.loop.invariant c.if1.true
@@ -43,7 +43,7 @@ loop-again c =
     says-next at.before.before.loop.invariant _ _ at.if1.false within c.says-one.ensures
 
 returns-2 : tie.Need-returns-2 invariant-loop decreases-loop
-returns-2 c = says-out c.before.loop.invariant c.loop-test.false
+returns-2 c = says_out c.before.loop.invariant c.loop-test.false
 
 pub says-spec : {M : Type 1} → statement M
 says-spec =

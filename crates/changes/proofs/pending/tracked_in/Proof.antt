@@ -11,7 +11,7 @@ says-requires : tie.Need-says-requires
 says-requires c κs = search rules
 
 returns : tie.Need-returns
-returns c = rw (c.before.contains-in.ensures, take-length) at c.says.ensures
+returns c = rw (c.before.contains_in.ensures, take-length) at c.says.ensures
 
 pub tracked-in-spec : {M : Type 1} → statement M
 tracked-in-spec = tie.close (tie.spec contains-in-requires says-requires returns)

@@ -3,7 +3,7 @@ use mathlib.Core.Path.{refl}
 use mathlib.Core.Bool.{true, false}
 use mathlib.Core.List.{[], ◌∷◌}
 use borrow.Author.Rules.{rules}
-use Rattle.changes.specs.Table.{learnerAt}
+use Rattle.changes.specs.Table.{learner_at}
 use Rattle.changes.proofs.Variants.{keyed}
 use Rattle.changes.proofs.table.is_learner.Statement.{statement}
 use Rattle.changes.proofs.table.is_learner.Tie as tie
@@ -12,10 +12,10 @@ enum_told : tie.Need-enum-told
 enum_told c = search rules
 
 returns : tie.Need-returns
-returns c = keyed learnerAt true (3 ∷ []) c.before.before.args.s c.before.match.keys1 (refl, tt)
+returns c = keyed learner_at true (3 ∷ []) c.before.before.args.s c.before.match.keys1 (refl, tt)
 
 returns-2 : tie.Need-returns-2
-returns-2 c = keyed learnerAt false (0 ∷ 1 ∷ 2 ∷ 4 ∷ 5 ∷ 6 ∷ []) c.before.args.s c.match.keys2 (refl, (refl, (refl, (refl, (refl, (refl, tt))))))
+returns-2 c = keyed learner_at false (0 ∷ 1 ∷ 2 ∷ 4 ∷ 5 ∷ 6 ∷ []) c.before.args.s c.match.keys2 (refl, (refl, (refl, (refl, (refl, (refl, tt))))))
 
 pub is-learner-spec : {M : Type 1} → statement M
 is-learner-spec = tie.close (tie.spec enum_told returns returns-2)

@@ -1,7 +1,7 @@
 -- `comparison::line::put_flag` meets its contract: nothing, or one of the two texts. Assumes nothing.
 use native.Mathlib.Omega.{arith}
 use borrow.Author.Rules.{rules}
-use Rattle.text.proofs.Laws.{put-none}
+use Rattle.text.proofs.Laws.{put_none}
 use Rattle.comparison.proofs.Lines.{flag_same, flag-set, flag_cleared}
 use Rattle.comparison.proofs.line.put_flag.Statement.{statement}
 use Rattle.comparison.proofs.line.put_flag.Tie as tie
@@ -9,7 +9,7 @@ use Rattle.comparison.proofs.line.put_flag.Tie as tie
 returns : tie.Need-returns
 returns c =
     let s = c.before.before in
-    rw (flag_same s.args.first s.args.second c.if1.true) (put-none (omega (arith, s.ranges)))
+    rw (flag_same s.args.first s.args.second c.if1.true) (put_none (omega (arith, s.ranges)))
 
 slice-aggregate-put-bytes : tie.Need-slice-aggregate-put-bytes
 slice-aggregate-put-bytes c = search rules

@@ -1,8 +1,8 @@
 -- `comparison::line::put_id` meets its contract: nothing where the standings are the same, else the line. Assumes nothing.
 use native.Mathlib.Omega.{arith}
 use borrow.Author.Rules.{rules}
-use Rattle.text.proofs.Laws.{put-none}
-use Rattle.comparison.proofs.Lines.{line-none, line-some}
+use Rattle.text.proofs.Laws.{put_none}
+use Rattle.comparison.proofs.Lines.{line_none, line-some}
 use Rattle.comparison.proofs.line.put_id.Statement.{statement}
 use Rattle.comparison.proofs.line.put_id.Tie as tie
 
@@ -12,7 +12,7 @@ same-requires c κs = search rules
 returns : tie.Need-returns
 returns c =
     let s = c.before.before.before in
-    rw (line-none s.args.id s.args.s s.args.t c.before.same.ensures c.if1.true) (put-none (omega (arith, s.ranges)))
+    rw (line_none s.args.id s.args.s s.args.t c.before.same.ensures c.if1.true) (put_none (omega (arith, s.ranges)))
 
 put-line-requires : tie.Need-put-line-requires
 put-line-requires c κs = search rules

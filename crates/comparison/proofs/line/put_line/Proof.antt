@@ -34,7 +34,7 @@ returns : tie.Need-returns
 unfolding line
 returns c =
     let s = c.before.before.before.before.before.before.before.before.before.before.before.before.before.before.before.before.before.before.before.before.before.before.before.before.before.before in
-    rest-last (rest_put (rest_put (rest_put (rest_put (rest_put (rest_all (omega (arith, s.well-formed, s.ranges)) (omega (arith, s.well-formed, s.ranges))) c.before.before.before.before.before.before.before.before.before.before.before.before.before.before.before.before.before.before.before.before.before.before.before.put-decimal.ensures) c.before.before.before.before.before.before.before.before.before.before.before.before.before.before.before.before.before.before.before.put_byte.ensures) c.before.before.before.before.before.before.before.before.before.before.before.before.before.before.before.put-standing.ensures) c.before.before.before.before.before.before.before.before.before.before.put-bytes.ensures) c.before.before.before.before.before.before.put-standing2.ensures) c.before.before.put-byte2.ensures
+    rest-last (rest_put (rest_put (rest_put (rest_put (rest_put (rest_all (omega (arith, s.well_formed_lem, s.ranges)) (omega (arith, s.well_formed_lem, s.ranges))) c.before.before.before.before.before.before.before.before.before.before.before.before.before.before.before.before.before.before.before.before.before.before.before.put-decimal.ensures) c.before.before.before.before.before.before.before.before.before.before.before.before.before.before.before.before.before.before.before.put_byte.ensures) c.before.before.before.before.before.before.before.before.before.before.before.before.before.before.before.put-standing.ensures) c.before.before.before.before.before.before.before.before.before.before.put-bytes.ensures) c.before.before.before.before.before.before.put-standing2.ensures) c.before.before.put-byte2.ensures
 
 pub put-line-spec : {M : Type 1} → statement M
 put-line-spec =

@@ -3,7 +3,7 @@ use mathlib.Core.Logic.{⊎_elim}
 use native.Mathlib.Omega.{arith}
 use borrow.Author.Rules.{rules}
 use Rattle.text.proofs.Laws.{rest_all, rest_put, rest-last}
-use Rattle.comparison.proofs.Lines.{or-then, or_else, text-none, text-names}
+use Rattle.comparison.proofs.Lines.{or_then, or_else, text_none, text_names}
 use Rattle.comparison.proofs.line.put_standing.Statement.{statement}
 use Rattle.comparison.proofs.line.put_standing.Tie as tie
 
@@ -19,10 +19,10 @@ same_length c = search rules
 returns : tie.Need-returns
 returns c =
     let s = c.before.before.before.before.before.before.before.before.before.before in
-    let f = ⊎_elim (λ w. or-then _ _ w.0.taken w.1) (λ w. or_else _ _ w.0.left w.1) c.before.before.before.before.before.before.before.before.if1.branch in
-    let g = ⊎_elim (λ w. or-then _ _ w.0.taken w.1) (λ w. or_else _ _ w.0.left w.1) c.before.before.before.before.before.before.before.if2.branch in
-    let h = ⊎_elim (λ w. or-then _ _ w.0.taken w.1) (λ w. or_else _ _ w.0.left w.1) c.before.before.before.before.before.before.if3.branch in
-    rw (text-none s.args.s f g h c.before.before.before.before.before.if4.true) c.before.before.put-bytes.ensures
+    let f = ⊎_elim (λ w. or_then _ _ w.0.taken w.1) (λ w. or_else _ _ w.0.left w.1) c.before.before.before.before.before.before.before.before.if1.branch in
+    let g = ⊎_elim (λ w. or_then _ _ w.0.taken w.1) (λ w. or_else _ _ w.0.left w.1) c.before.before.before.before.before.before.before.if2.branch in
+    let h = ⊎_elim (λ w. or_then _ _ w.0.taken w.1) (λ w. or_else _ _ w.0.left w.1) c.before.before.before.before.before.before.if3.branch in
+    rw (text_none s.args.s f g h c.before.before.before.before.before.if4.true) c.before.before.put-bytes.ensures
 
 slice-aggregate-put-name : tie.Need-slice-aggregate-put-name
 slice-aggregate-put-name c = search rules
@@ -54,11 +54,11 @@ same-length-2 c = search rules
 returns-2 : tie.Need-returns-2
 returns-2 c =
     let s = c.before.before.before.before.before.before.before.before.before.before.before.before.before.before.before.before.before.before.before.before.before.before.before.before.before in
-    let f = ⊎_elim (λ w. or-then _ _ w.0.taken w.1) (λ w. or_else _ _ w.0.left w.1) c.before.before.before.before.before.before.before.before.before.before.before.before.before.before.before.before.before.before.before.before.before.before.before.if1.branch in
-    let g = ⊎_elim (λ w. or-then _ _ w.0.taken w.1) (λ w. or_else _ _ w.0.left w.1) c.before.before.before.before.before.before.before.before.before.before.before.before.before.before.before.before.before.before.before.before.before.before.if2.branch in
-    let h = ⊎_elim (λ w. or-then _ _ w.0.taken w.1) (λ w. or_else _ _ w.0.left w.1) c.before.before.before.before.before.before.before.before.before.before.before.before.before.before.before.before.before.before.before.before.before.if3.branch in
-    rw (text-names s.args.s f g h c.before.before.before.before.before.before.before.before.before.before.before.before.before.before.before.before.before.before.before.before.if4.false)
-    (rest-last (rest_put (rest_put (rest_put (rest_all (omega (arith, s.well-formed, s.ranges)) (omega (arith, s.well-formed, s.ranges))) c.before.before.before.before.before.before.before.before.before.before.before.before.before.before.before.before.before.put-name.ensures) c.before.before.before.before.before.before.before.before.before.before.before.before.put-name2.ensures) c.before.before.before.before.before.before.before.put-name3.ensures) c.before.before.put-name4.ensures)
+    let f = ⊎_elim (λ w. or_then _ _ w.0.taken w.1) (λ w. or_else _ _ w.0.left w.1) c.before.before.before.before.before.before.before.before.before.before.before.before.before.before.before.before.before.before.before.before.before.before.before.if1.branch in
+    let g = ⊎_elim (λ w. or_then _ _ w.0.taken w.1) (λ w. or_else _ _ w.0.left w.1) c.before.before.before.before.before.before.before.before.before.before.before.before.before.before.before.before.before.before.before.before.before.before.if2.branch in
+    let h = ⊎_elim (λ w. or_then _ _ w.0.taken w.1) (λ w. or_else _ _ w.0.left w.1) c.before.before.before.before.before.before.before.before.before.before.before.before.before.before.before.before.before.before.before.before.before.if3.branch in
+    rw (text_names s.args.s f g h c.before.before.before.before.before.before.before.before.before.before.before.before.before.before.before.before.before.before.before.before.if4.false)
+    (rest-last (rest_put (rest_put (rest_put (rest_all (omega (arith, s.well_formed_lem, s.ranges)) (omega (arith, s.well_formed_lem, s.ranges))) c.before.before.before.before.before.before.before.before.before.before.before.before.before.before.before.before.before.put-name.ensures) c.before.before.before.before.before.before.before.before.before.before.before.before.put-name2.ensures) c.before.before.before.before.before.before.before.put-name3.ensures) c.before.before.put-name4.ensures)
 
 pub put-standing-spec : {M : Type 1} → statement M
 put-standing-spec =

@@ -1,6 +1,6 @@
 -- `comparison::walk::is_at` meets its contract: the 64 places of the list, as they are lent. Assumes nothing.
 use borrow.Author.Rules.{rules}
-use Rattle.comparison.proofs.Places.{stands-in}
+use Rattle.comparison.proofs.Places.{stands_in_lem}
 use Rattle.comparison.proofs.walk.is_at.Statement.{statement}
 use Rattle.comparison.proofs.walk.is_at.Tie as tie
 
@@ -34,7 +34,7 @@ stands-at-requires c κs = search rules
 returns : tie.Need-returns
 returns c =
     let s = c.before.before.before.before in
-    stands-in s.args.words.now s.args.k s.requires.0 s.requires.1 s.args.at s.args.id c.stands_at.ensures
+    stands_in_lem s.args.words.now s.args.k s.requires.0 s.requires.1 s.args.at s.args.id c.stands_at.ensures
 
 pub is-at-spec : {M : Type 1} → statement M
 is-at-spec =

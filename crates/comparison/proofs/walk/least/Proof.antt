@@ -1,6 +1,6 @@
 -- `comparison::walk::least` meets its contract: the four lists, one after the other. Assumes nothing.
 use borrow.Author.Rules.{rules}
-use Rattle.confstate.specs.Words.{messageIn}
+use Rattle.confstate.specs.Words.{message_in}
 use Rattle.comparison.specs.Steps.{left_of}
 use Rattle.comparison.proofs.ListWords.{voters-few, learners-few, outgoing-few, next-few}
 use Rattle.comparison.proofs.walk.least.Statement.{statement}
@@ -19,7 +19,7 @@ lesser-requires-4 : tie.Need-lesser-requires-4
 lesser-requires-4 c κs = search (rules, voters-few, learners-few, outgoing-few, next-few)
 
 returns : tie.Need-returns
-unfolding left_of messageIn
+unfolding left_of message_in
 returns c = cc
 
 pub least-spec : {M : Type 1} → statement M

@@ -2,7 +2,7 @@
 use native.Mathlib.Omega.{arith}
 use borrow.Author.Rules.{rules}
 use Rattle.comparison.proofs.ListWords.{count-few}
-use Rattle.comparison.proofs.Places.{lesser-end, lesser-kept, lesser-less, lesser-first}
+use Rattle.comparison.proofs.Places.{lesser_end, lesser_kept, lesser_less, lesser_first}
 use Rattle.comparison.proofs.walk.lesser.Statement.{statement}
 use Rattle.comparison.proofs.walk.lesser.Tie as tie
 
@@ -16,7 +16,7 @@ shared-slice-read-count : tie.Need-shared-slice-read-count
 shared-slice-read-count c = search rules
 
 returns : tie.Need-returns
-returns c = search (rules, lesser-end)
+returns c = search (rules, lesser_end)
 
 add-id : tie.Need-overflow-add-id
 add-id c =
@@ -34,13 +34,13 @@ shared-slice-read-id c =
     omega (arith, count-few s.args.words.now s.args.k s.requires.0 s.requires.1)
 
 returns-2 : tie.Need-returns-2
-returns-2 c = search (rules, lesser-kept)
+returns-2 c = search (rules, lesser_kept)
 
 returns-3 : tie.Need-returns-3
-returns-3 c = search (rules, lesser-less, lesser-first)
+returns-3 c = search (rules, lesser_less, lesser_first)
 
 returns-4 : tie.Need-returns-4
-returns-4 c = search (rules, lesser-less, lesser-first)
+returns-4 c = search (rules, lesser_less, lesser_first)
 
 pub lesser-spec : {M : Type 1} → statement M
 lesser-spec =

@@ -1,7 +1,7 @@
 -- `comparison::walk::sets_at` meets its contract: the four lists. Assumes nothing.
 use borrow.Author.Rules.{rules}
-use Rattle.confstate.specs.Words.{messageIn}
-use Rattle.comparison.specs.Steps.{left_of, firstsOf}
+use Rattle.confstate.specs.Words.{message_in}
+use Rattle.comparison.specs.Steps.{left_of, firsts_of}
 use Rattle.comparison.proofs.ListWords.{voters-few, learners-few, outgoing-few, next-few}
 use Rattle.comparison.proofs.walk.sets_at.Statement.{statement}
 use Rattle.comparison.proofs.walk.sets_at.Tie as tie
@@ -19,7 +19,7 @@ is-at-requires-4 : tie.Need-is-at-requires-4
 is-at-requires-4 c κs = search (rules, voters-few, learners-few, outgoing-few, next-few)
 
 returns : tie.Need-returns
-unfolding left_of messageIn firstsOf
+unfolding left_of message_in firsts_of
 returns c = cc
 
 pub sets-at-spec : {M : Type 1} → statement M

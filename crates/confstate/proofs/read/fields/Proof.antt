@@ -1,6 +1,6 @@
 -- `confstate::read::fields` meets its contract. Assumes nothing.
 use mathlib.Core.Path.{sym, ◌∙◌}
-use Rattle.confstate.proofs.Tags.{Going, start-length, going_start, going_end, going-stop, going_next}
+use Rattle.confstate.proofs.Tags.{Going, start-length, going_start, going_end, going_stop, going_next}
 use lib.ListN.{length}
 use Prim.Native.Nat.{◌-◌}
 use native.Mathlib.Omega.{arith}
@@ -23,7 +23,7 @@ same_length : tie.Need-same-length invariant-loop decreases-loop
 same_length c = c.before.before.before.before.field.auto.1.1.0 ∙ (c.before.before.before.before.before.before.before.loop.invariant.long ∙ sym (start-length c.before.before.before.before.before.before.before.before.before.before.requires))
 
 returns : tie.Need-returns invariant-loop decreases-loop
-returns c = going-stop c.before.before.before.before.before.before.before.loop.invariant c.before.before.before.before.before.before.loop-test.true _ _ c.before.before.before.before.field.ensures c.if1.true
+returns c = going_stop c.before.before.before.before.before.before.before.loop.invariant c.before.before.before.before.before.before.loop-test.true _ _ c.before.before.before.before.field.ensures c.if1.true
 
 loop-less : tie.Need-loop-smaller invariant-loop decreases-loop
 loop-less c = omega (arith, (going_next c.before.before.before.before.before.before.before.loop.invariant c.before.before.before.before.before.before.loop-test.true _ _ c.before.before.before.before.field.ensures c.if1.false).0.spot, (going_next c.before.before.before.before.before.before.before.loop.invariant c.before.before.before.before.before.before.loop-test.true _ _ c.before.before.before.before.field.ensures c.if1.false).1)

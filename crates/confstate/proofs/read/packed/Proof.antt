@@ -1,6 +1,6 @@
 -- `confstate::read::packed` meets its contract. Assumes nothing.
-use Rattle.confstate.proofs.Packing.{Packing, packing-start, packing-one, packing-cut, packing-next, packing-over, value-within, over-within, packing-29, packing-30, packing-all}
-use Rattle.confstate.specs.Words.{listIn}
+use Rattle.confstate.proofs.Packing.{Packing, packing_start, packing_one, packing_cut, packing_next, packing_over, value-within, over_within, packing_29, packing_30, packing_all}
+use Rattle.confstate.specs.Words.{list_in}
 use lib.ListN.{length, length-set}
 use Prim.Native.Nat.{◌-◌}
 use mathlib.Core.Path.{sym, ◌∙◌}
@@ -10,7 +10,7 @@ use Rattle.confstate.proofs.read.packed.Statement.{statement}
 use Rattle.confstate.proofs.read.packed.Tie as tie
 
 abbrev invariant-loop : tie.invariant-loop
-invariant-loop bytes list₀ n₀ over₀ p₀ list n over p = Packing bytes (listIn list₀ 0) (length (listIn list₀ 0)) list n over p
+invariant-loop bytes list₀ n₀ over₀ p₀ list n over p = Packing bytes (list_in list₀ 0) (length (list_in list₀ 0)) list n over p
 
 abbrev decreases-loop : tie.decreases-loop
 decreases-loop bytes list₀ n₀ over₀ p₀ list n over p = length bytes - p
@@ -19,7 +19,7 @@ slice-read-n : tie.Need-slice-read-n invariant-loop decreases-loop
 slice-read-n c = search rules
 
 loop-holds : tie.Need-loop-init invariant-loop decreases-loop
-loop-holds c = packing-start c.before.before.before.requires
+loop-holds c = packing_start c.before.before.before.requires
 
 shared-slice-read-b : tie.Need-shared-slice-read-b invariant-loop decreases-loop
 shared-slice-read-b c = search rules
@@ -40,7 +40,7 @@ loop-less : tie.Need-loop-smaller invariant-loop decreases-loop
 loop-less c = search rules
 
 loop-again : tie.Need-loop-preserved invariant-loop decreases-loop
-loop-again c = packing-one c.before.before.before.before.before.before.before.loop.invariant c.before.before.before.before.before.before.loop-test.true c.before.before.before.before.if1.true c.before.before.store.ensures
+loop-again c = packing_one c.before.before.before.before.before.before.before.loop.invariant c.before.before.before.before.before.before.loop-test.true c.before.before.before.before.if1.true c.before.before.store.ensures
 
 read-varint-requires : tie.Need-read-varint-requires invariant-loop decreases-loop
 read-varint-requires c κs = search rules
@@ -49,7 +49,7 @@ same_length : tie.Need-same-length invariant-loop decreases-loop
 same_length c = search rules
 
 returns : tie.Need-returns invariant-loop decreases-loop
-returns c = packing-cut c.before.before.before.before.before.before.loop.invariant c.before.before.before.before.before.loop-test.true c.before.before.read-varint.ensures c.if2.true
+returns c = packing_cut c.before.before.before.before.before.before.loop.invariant c.before.before.before.before.before.loop-test.true c.before.before.read-varint.ensures c.if2.true
 
 store-requires-2 : tie.Need-store-requires-2 invariant-loop decreases-loop
 store-requires-2 c κs = search rules
@@ -61,25 +61,25 @@ loop-less-2 : tie.Need-loop-smaller-2 invariant-loop decreases-loop
 loop-less-2 c = omega (arith, (value-within c.before.before.before.before.before.before.before.before.before.before.before.before.loop.invariant c.before.before.before.before.before.before.before.before.before.before.before.loop-test.true c.before.before.before.before.before.before.before.before.read-varint.ensures c.before.before.before.before.if3.true).0, (value-within c.before.before.before.before.before.before.before.before.before.before.before.before.loop.invariant c.before.before.before.before.before.before.before.before.before.before.before.loop-test.true c.before.before.before.before.before.before.before.before.read-varint.ensures c.before.before.before.before.if3.true).1)
 
 loop-again-2 : tie.Need-loop-preserved-2 invariant-loop decreases-loop
-loop-again-2 c = packing-next c.before.before.before.before.before.before.before.before.before.before.before.before.loop.invariant c.before.before.before.before.before.before.before.before.before.before.before.loop-test.true c.before.before.before.before.before.before.before.before.read-varint.ensures c.before.before.before.before.if3.true c.before.before.store2.ensures
+loop-again-2 c = packing_next c.before.before.before.before.before.before.before.before.before.before.before.before.loop.invariant c.before.before.before.before.before.before.before.before.before.before.before.loop-test.true c.before.before.before.before.before.before.before.before.read-varint.ensures c.before.before.before.before.if3.true c.before.before.store2.ensures
 
 loop-less-3 : tie.Need-loop-smaller-3 invariant-loop decreases-loop
-loop-less-3 c = omega (arith, (over-within c.before.before.before.before.before.before.before.before.loop.invariant c.before.before.before.before.before.before.before.loop-test.true c.before.before.before.before.read-varint.ensures c.if3.false c.before.before.if2.false).0, (over-within c.before.before.before.before.before.before.before.before.loop.invariant c.before.before.before.before.before.before.before.loop-test.true c.before.before.before.before.read-varint.ensures c.if3.false c.before.before.if2.false).1)
+loop-less-3 c = omega (arith, (over_within c.before.before.before.before.before.before.before.before.loop.invariant c.before.before.before.before.before.before.before.loop-test.true c.before.before.before.before.read-varint.ensures c.if3.false c.before.before.if2.false).0, (over_within c.before.before.before.before.before.before.before.before.loop.invariant c.before.before.before.before.before.before.before.loop-test.true c.before.before.before.before.read-varint.ensures c.if3.false c.before.before.if2.false).1)
 
 loop-again-3 : tie.Need-loop-preserved-3 invariant-loop decreases-loop
-loop-again-3 c = packing-over c.before.before.before.before.before.before.before.before.loop.invariant c.before.before.before.before.before.before.before.loop-test.true c.before.before.before.before.read-varint.ensures c.if3.false c.before.before.if2.false
+loop-again-3 c = packing_over c.before.before.before.before.before.before.before.before.loop.invariant c.before.before.before.before.before.before.before.loop-test.true c.before.before.before.before.read-varint.ensures c.if3.false c.before.before.if2.false
 
 same-length-2 : tie.Need-same-length-2 invariant-loop decreases-loop
 same-length-2 c = search rules
 
 returns-2 : tie.Need-returns-2 invariant-loop decreases-loop
-returns-2 c = packing-29 c.before.before.loop.invariant c.before.loop-test.false c.if4.true
+returns-2 c = packing_29 c.before.before.loop.invariant c.before.loop-test.false c.if4.true
 
 same-length-3 : tie.Need-same-length-3 invariant-loop decreases-loop
 same-length-3 c = search rules
 
 returns-3 : tie.Need-returns-3 invariant-loop decreases-loop
-returns-3 c = packing-30 c.before.before.before.loop.invariant c.before.before.loop-test.false c.before.if4.false c.if5.true
+returns-3 c = packing_30 c.before.before.before.loop.invariant c.before.before.loop-test.false c.before.if4.false c.if5.true
 
 slice-write-list : tie.Need-slice-write-list invariant-loop decreases-loop
 slice-write-list c = search rules
@@ -88,7 +88,7 @@ same-length-4 : tie.Need-same-length-4 invariant-loop decreases-loop
 same-length-4 c = length-set c.before.before.before.loop.list 64 c.before.before.before.loop.n ∙ (c.before.before.before.loop.invariant.long ∙ sym c.before.before.before.before.before.before.before.requires.long)
 
 returns-4 : tie.Need-returns-4 invariant-loop decreases-loop
-returns-4 c = packing-all c.before.before.before.loop.invariant c.before.before.loop-test.false c.before.if4.false c.if5.false
+returns-4 c = packing_all c.before.before.before.loop.invariant c.before.before.loop-test.false c.before.if4.false c.if5.false
 
 pub packed-spec : {M : Type 1} → statement M
 packed-spec =

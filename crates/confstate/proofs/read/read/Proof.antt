@@ -1,5 +1,5 @@
 -- `confstate::read::read` meets its contract. Assumes nothing.
-use Rattle.confstate.proofs.Answers.{too_short, front-cleared, accepted, refusing}
+use Rattle.confstate.proofs.Answers.{too_short, front_cleared, accepted, refusing}
 use borrow.Author.Rules.{rules}
 use Rattle.confstate.proofs.read.read.Statement.{statement}
 use Rattle.confstate.proofs.read.read.Tie as tie
@@ -29,7 +29,7 @@ part-fields-end : tie.Need-slice-bounds-fields-end
 part-fields-end c = search rules
 
 fields-requires : tie.Need-fields-requires
-fields-requires c κs = front-cleared c.before.before.before.before.before.before.before.before.args.bytes.now c.before.before.before.before.before.before.before.before.args.conf-state.now c.before.before.before.before.before.if1.false c.before.before.before.clear.ensures
+fields-requires c κs = front_cleared c.before.before.before.before.before.before.before.before.args.bytes.now c.before.before.before.before.before.before.before.before.args.conf-state.now c.before.before.before.before.before.if1.false c.before.before.before.clear.ensures
 
 same_length : tie.Need-same-length
 same_length c = search rules

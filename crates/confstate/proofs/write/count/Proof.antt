@@ -1,7 +1,7 @@
 -- `write::count` meets its contract: the four lists one after the other. Assumes nothing.
 use borrow.Author.Rules.{rules}
-use Rattle.confstate.specs.Words.{messageIn}
-use Rattle.confstate.specs.Sizes.{sizesOf}
+use Rattle.confstate.specs.Words.{message_in}
+use Rattle.confstate.specs.Sizes.{sizes_of}
 use Rattle.confstate.proofs.Sizing.{block_1, block_2, block_3, block_4}
 use Rattle.confstate.proofs.write.count.Statement.{statement}
 use Rattle.confstate.proofs.write.count.Tie as tie
@@ -19,7 +19,7 @@ list-size-requires-4 : tie.Need-list-size-requires-4
 list-size-requires-4 c κs = search (rules, block_4)
 
 returns : tie.Need-returns
-unfolding sizesOf messageIn
+unfolding sizes_of message_in
 returns c = cc
 
 pub count_spec : {M : Type 1} → statement M

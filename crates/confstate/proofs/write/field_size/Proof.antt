@@ -2,12 +2,12 @@
 use native.Mathlib.Omega.{arith}
 use borrow.Author.Rules.{rules}
 use Rattle.rules.proofs.Wire.{varint-length}
-use Rattle.confstate.proofs.Sizing.{field-none, field-some}
+use Rattle.confstate.proofs.Sizing.{field_none, field-some}
 use Rattle.confstate.proofs.write.field_size.Statement.{statement}
 use Rattle.confstate.proofs.write.field_size.Tie as tie
 
 returns : tie.Need-returns
-returns c = search (rules, field-none)
+returns c = search (rules, field_none)
 
 size-requires : tie.Need-size-requires
 size-requires c κs = search rules

@@ -5,8 +5,8 @@ use mathlib.Core.List.{List}
 use native.Mathlib.Omega.{arith}
 use borrow.Author.Rules.{rules}
 use lib.ListN.{length}
-use Rattle.rules.specs.Message.{packedOf}
-use Rattle.confstate.proofs.Sizing.{block-count, block-lent}
+use Rattle.rules.specs.Message.{packed_of}
+use Rattle.confstate.proofs.Sizing.{block-count, block_lent}
 use Rattle.confstate.proofs.write.list_size.Statement.{statement}
 use Rattle.confstate.proofs.write.list_size.Tie as tie
 
@@ -35,10 +35,10 @@ part-packed-size-end : tie.Need-slice-bounds-packed-size-end
 part-packed-size-end c = omega (arith, block-count c.before.before.requires, c.before.before.requires.words)
 
 packed-size-requires : tie.Need-packed-size-requires
-packed-size-requires c κs = omega (arith, ap length (block-lent c.before.before.before.args.words.now c.before.before.before.args.k refl), c.before.before.before.requires.few)
+packed-size-requires c κs = omega (arith, ap length (block_lent c.before.before.before.args.words.now c.before.before.before.args.k refl), c.before.before.before.requires.few)
 
 returns : tie.Need-returns
-returns c = c.packed-size.ensures ∙ ap (λ (l : List ℕ). length (packedOf l)) (block-lent c.before.before.before.before.args.words.now c.before.before.before.before.args.k refl)
+returns c = c.packed-size.ensures ∙ ap (λ (l : List ℕ). length (packed_of l)) (block_lent c.before.before.before.before.args.words.now c.before.before.before.before.args.k refl)
 
 pub list-size-spec : {M : Type 1} → statement M
 list-size-spec =

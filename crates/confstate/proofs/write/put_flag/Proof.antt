@@ -2,12 +2,12 @@
 use native.Mathlib.Omega.{arith}
 use borrow.Author.Rules.{rules}
 use lib.Seq.{lt-length-set}
-use Rattle.confstate.proofs.Writing.{flag-none, flag-room, flag-put}
+use Rattle.confstate.proofs.Writing.{flag_none, flag-room, flag-put}
 use Rattle.confstate.proofs.write.put_flag.Statement.{statement}
 use Rattle.confstate.proofs.write.put_flag.Tie as tie
 
 returns : tie.Need-returns
-returns c = flag-none c.if1.true (omega arith)
+returns c = flag_none c.if1.true (omega arith)
 
 slice-write-out : tie.Need-slice-write-out
 slice-write-out c = omega (arith, flag-room c.before.args.at c.before.requires.0 c.if1.false c.before.requires.1)

@@ -3,7 +3,7 @@ use mathlib.Core.Path.{refl}
 use native.Mathlib.Omega.{arith}
 use borrow.Author.Rules.{rules}
 use Rattle.text.proofs.Laws.{put-length}
-use Rattle.confstate.proofs.Sizing.{block-count, block-lent}
+use Rattle.confstate.proofs.Sizing.{block-count, block_lent}
 use Rattle.confstate.proofs.Writing.{listing_none, listing-room, listing-first, listing-next, listing-put}
 use Rattle.confstate.proofs.write.put_list.Statement.{statement}
 use Rattle.confstate.proofs.write.put_list.Tie as tie
@@ -55,17 +55,17 @@ part-put-packed-end c = omega (arith, block-count c.before.before.before.before.
 put-packed-requires : tie.Need-put-packed-requires
 put-packed-requires c κs =
     let a = c.before.before.before.before.before.before.before.before.before.before.args in
-    listing-next c.before.before.before.before.before.before.before.before.before.before.requires c.before.before.before.before.before.before.before.if1.false a.out.now (omega arith) refl c.before.before.before.before.before.put-varint.ensures (block-lent a.words.now a.k refl)
+    listing-next c.before.before.before.before.before.before.before.before.before.before.requires c.before.before.before.before.before.before.before.if1.false a.out.now (omega arith) refl c.before.before.before.before.before.put-varint.ensures (block_lent a.words.now a.k refl)
 
 same_length : tie.Need-same-length
 same_length c =
     let a = c.before.before.before.before.before.before.before.before.before.before.before.before.before.args in
-    put-length (listing-put c.before.before.before.before.before.before.before.before.before.before.before.before.before.requires c.before.before.before.before.before.before.before.before.before.before.if1.false a.out.now (omega arith) refl c.before.before.before.before.before.before.before.before.put-varint.ensures (block-lent a.words.now a.k refl) c.before.before.put-packed.ensures)
+    put-length (listing-put c.before.before.before.before.before.before.before.before.before.before.before.before.before.requires c.before.before.before.before.before.before.before.before.before.before.if1.false a.out.now (omega arith) refl c.before.before.before.before.before.before.before.before.put-varint.ensures (block_lent a.words.now a.k refl) c.before.before.put-packed.ensures)
 
 returns-2 : tie.Need-returns-2
 returns-2 c =
     let a = c.before.before.before.before.before.before.before.before.before.before.before.before.before.args in
-    listing-put c.before.before.before.before.before.before.before.before.before.before.before.before.before.requires c.before.before.before.before.before.before.before.before.before.before.if1.false a.out.now (omega arith) refl c.before.before.before.before.before.before.before.before.put-varint.ensures (block-lent a.words.now a.k refl) c.before.before.put-packed.ensures
+    listing-put c.before.before.before.before.before.before.before.before.before.before.before.before.before.requires c.before.before.before.before.before.before.before.before.before.before.if1.false a.out.now (omega arith) refl c.before.before.before.before.before.before.before.before.put-varint.ensures (block_lent a.words.now a.k refl) c.before.before.put-packed.ensures
 
 pub put-list-spec : {M : Type 1} → statement M
 put-list-spec =

@@ -3,7 +3,7 @@ use Prim.Native.Nat.{◌-◌}
 use native.Mathlib.Omega.{arith}
 use borrow.Author.Rules.{rules}
 use lib.ListN.{length}
-use Rattle.confstate.proofs.Writing.{Packs, packs-start, packs-length, packs-room, packs-next, packs-end}
+use Rattle.confstate.proofs.Writing.{Packs, packs_start, packs_length, packs_room, packs_next, packs_end}
 use Rattle.confstate.proofs.write.put_packed.Statement.{statement}
 use Rattle.confstate.proofs.write.put_packed.Tie as tie
 
@@ -14,7 +14,7 @@ abbrev decreases-loop : tie.decreases-loop
 decreases-loop out₀ at ids p₀ i₀ out p i = length ids - i
 
 loop-holds : tie.Need-loop-init invariant-loop decreases-loop
-loop-holds c = packs-start (omega arith) (search rules)
+loop-holds c = packs_start (omega arith) (search rules)
 
 mul-put-varint : tie.Need-overflow-mul-put-varint invariant-loop decreases-loop
 mul-put-varint c = search rules
@@ -23,7 +23,7 @@ shared-slice-read-put-varint : tie.Need-shared-slice-read-put-varint invariant-l
 shared-slice-read-put-varint c = search rules
 
 put-varint-requires : tie.Need-put-varint-requires invariant-loop decreases-loop
-put-varint-requires c κs = search (rules, packs-room)
+put-varint-requires c κs = search (rules, packs_room)
 
 add-i : tie.Need-overflow-add-i invariant-loop decreases-loop
 add-i c = search rules
@@ -32,13 +32,13 @@ loop-less : tie.Need-loop-smaller invariant-loop decreases-loop
 loop-less c = search rules
 
 loop-again : tie.Need-loop-preserved invariant-loop decreases-loop
-loop-again c = search (rules, packs-next)
+loop-again c = search (rules, packs_next)
 
 same_length : tie.Need-same-length invariant-loop decreases-loop
-same_length c = search (rules, packs-length)
+same_length c = search (rules, packs_length)
 
 returns : tie.Need-returns invariant-loop decreases-loop
-returns c = search (rules, packs-end)
+returns c = search (rules, packs_end)
 
 pub put-packed-spec : {M : Type 1} → statement M
 put-packed-spec =

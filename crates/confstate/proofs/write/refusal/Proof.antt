@@ -1,6 +1,6 @@
 -- `write::refusal` meets its contract: the tests in the order of the refusals. Assumes nothing.
 use borrow.Author.Rules.{rules}
-use Rattle.confstate.proofs.Sizing.{refused-words, refused-flag, refused-1, refused-2, refused-3, refused-4, refused_none}
+use Rattle.confstate.proofs.Sizing.{refused-words, refused-flag, refused_1, refused_2, refused_3, refused_4, refused_none}
 use Rattle.confstate.proofs.write.refusal.Statement.{statement}
 use Rattle.confstate.proofs.write.refusal.Tie as tie
 
@@ -17,25 +17,25 @@ shared-slice-read-if3 : tie.Need-shared-slice-read-if3
 shared-slice-read-if3 c = search rules
 
 returns-3 : tie.Need-returns-3
-returns-3 c = search (rules, refused-1)
+returns-3 c = search (rules, refused_1)
 
 shared-slice-read-if4 : tie.Need-shared-slice-read-if4
 shared-slice-read-if4 c = search rules
 
 returns-4 : tie.Need-returns-4
-returns-4 c = search (rules, refused-2)
+returns-4 c = search (rules, refused_2)
 
 shared-slice-read-if5 : tie.Need-shared-slice-read-if5
 shared-slice-read-if5 c = search rules
 
 returns-5 : tie.Need-returns-5
-returns-5 c = search (rules, refused-3)
+returns-5 c = search (rules, refused_3)
 
 shared-slice-read-if6 : tie.Need-shared-slice-read-if6
 shared-slice-read-if6 c = search rules
 
 returns-6 : tie.Need-returns-6
-returns-6 c = search (rules, refused-4)
+returns-6 c = search (rules, refused_4)
 
 returns-7 : tie.Need-returns-7
 returns-7 c = search (rules, refused_none)

@@ -1,7 +1,7 @@
 -- `write::write` meets its contract: the words are refused, the slice is too small, or the message is put. Assumes nothing.
 use native.Mathlib.Omega.{arith}
 use borrow.Author.Rules.{rules}
-use Rattle.confstate.proofs.Sizing.{refusal-few, writable, sizes-few, counted-length}
+use Rattle.confstate.proofs.Sizing.{refusal-few, writable, sizes_few, counted-length}
 use Rattle.confstate.proofs.Writing.{answer-refused, answer-small, answer-written}
 use Rattle.confstate.proofs.write.write.Statement.{statement}
 use Rattle.confstate.proofs.write.write.Tie as tie
@@ -22,7 +22,7 @@ shared-slice-read-total : tie.Need-shared-slice-read-total
 shared-slice-read-total c = omega (arith, (writable c.before.before.before.refusal.ensures c.before.before.if1.false).words)
 
 total-requires : tie.Need-total-requires
-total-requires c κs = sizes-few (writable c.before.before.before.refusal.ensures c.before.before.if1.false) c.before.count.ensures
+total-requires c κs = sizes_few (writable c.before.before.before.refusal.ensures c.before.before.if1.false) c.before.count.ensures
 
 add-result-2 : tie.Need-overflow-add-result-2
 add-result-2 c = search rules

@@ -1,7 +1,7 @@
 -- `listing::line::put_auto` meets its contract. Assumes nothing.
 use native.Mathlib.Omega.{arith}
 use borrow.Author.Rules.{rules}
-use Rattle.text.proofs.Laws.{put-none}
+use Rattle.text.proofs.Laws.{put_none}
 use Rattle.listing.proofs.line.put_auto.Statement.{statement}
 use Rattle.listing.proofs.line.put_auto.Tie as tie
 
@@ -18,7 +18,7 @@ returns : tie.Need-returns
 returns c = rw c.before.before.before.before.before.if1.true c.before.before.put-bytes.ensures
 
 returns-2 : tie.Need-returns-2
-returns-2 c = rw c.if1.false (put-none (omega arith))
+returns-2 c = rw c.if1.false (put_none (omega arith))
 
 pub put-auto-spec : {M : Type 1} → statement M
 put-auto-spec =

@@ -2,7 +2,7 @@
 use native.Mathlib.Omega.{arith}
 use borrow.Author.Rules.{rules}
 use Rattle.text.proofs.Laws.{rest_all, rest_put, rest-last, put-length}
-use Rattle.listing.specs.Lines.{confText}
+use Rattle.listing.specs.Lines.{conf_text}
 use Rattle.listing.proofs.line.put_conf.Statement.{statement}
 use Rattle.listing.proofs.line.put_conf.Tie as tie
 
@@ -37,10 +37,10 @@ put-auto-requires : tie.Need-put-auto-requires
 put-auto-requires c κs = search rules
 
 returns : tie.Need-returns
-unfolding confText
+unfolding conf_text
 returns c =
     let s = c.before.before.before.before.before.before.before.before.before.before.before.before.before.before.before.before.before.before.before.before.before.before.before.before.before.before.before.before.before in
-    rest-last (rest_put (rest_put (rest_put (rest_put (rest_put (rest_all (omega (arith, s.well-formed, s.ranges)) (omega (arith, s.well-formed, s.ranges))) c.before.before.before.before.before.before.before.before.before.before.before.before.before.before.before.before.before.before.before.before.before.before.before.before.before.put-bytes.ensures) c.before.before.before.before.before.before.before.before.before.before.before.before.before.before.before.before.before.before.before.before.before.put-set.ensures) c.before.before.before.before.before.before.before.before.before.before.before.before.before.before.before.before.put-labelled.ensures) c.before.before.before.before.before.before.before.before.before.before.before.put-labelled2.ensures) c.before.before.before.before.before.before.put-labelled3.ensures) c.before.before.put-auto.ensures
+    rest-last (rest_put (rest_put (rest_put (rest_put (rest_put (rest_all (omega (arith, s.well_formed_lem, s.ranges)) (omega (arith, s.well_formed_lem, s.ranges))) c.before.before.before.before.before.before.before.before.before.before.before.before.before.before.before.before.before.before.before.before.before.before.before.before.before.put-bytes.ensures) c.before.before.before.before.before.before.before.before.before.before.before.before.before.before.before.before.before.before.before.before.before.put-set.ensures) c.before.before.before.before.before.before.before.before.before.before.before.before.before.before.before.before.put-labelled.ensures) c.before.before.before.before.before.before.before.before.before.before.before.put-labelled2.ensures) c.before.before.before.before.before.before.put-labelled3.ensures) c.before.before.put-auto.ensures
 
 same_length : tie.Need-same-length
 same_length c = put-length (returns c)

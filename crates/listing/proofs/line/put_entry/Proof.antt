@@ -2,7 +2,7 @@
 use native.Mathlib.Omega.{arith}
 use borrow.Author.Rules.{rules}
 use Rattle.text.proofs.Laws.{put_then}
-use Rattle.listing.proofs.Lines.{entry-text}
+use Rattle.listing.proofs.Lines.{entry_text_lem}
 use Rattle.listing.proofs.line.put_entry.Statement.{statement}
 use Rattle.listing.proofs.line.put_entry.Tie as tie
 
@@ -19,7 +19,7 @@ same_length : tie.Need-same-length
 same_length c = search rules
 
 returns : tie.Need-returns
-returns c = rw (entry-text _ _) (put_then (omega arith) (rw c.before.before.before.before.before.before.before.sign.ensures at c.before.before.before.before.before.before.put_byte.ensures) c.before.before.put-decimal.ensures)
+returns c = rw (entry_text_lem _ _) (put_then (omega arith) (rw c.before.before.before.before.before.before.before.sign.ensures at c.before.before.before.before.before.before.put_byte.ensures) c.before.before.put-decimal.ensures)
 
 pub put-entry-spec : {M : Type 1} → statement M
 put-entry-spec =

@@ -2,7 +2,7 @@
 use native.Mathlib.Omega.{arith}
 use borrow.Author.Rules.{rules}
 use mathlib.Core.Path.{sym, ◌∙◌}
-use Rattle.text.proofs.Laws.{put-none, put_then}
+use Rattle.text.proofs.Laws.{put_none, put_then}
 use Rattle.listing.specs.Lines.{labelled}
 use Rattle.listing.proofs.line.put_labelled.Statement.{statement}
 use Rattle.listing.proofs.line.put_labelled.Tie as tie
@@ -12,7 +12,7 @@ is-empty-requires c κs = search rules
 
 returns : tie.Need-returns
 unfolding labelled
-returns c = simp (sym c.before.is-empty.ensures ∙ c.if1.true) (put-none (omega arith))
+returns c = simp (sym c.before.is_empty_lem.ensures ∙ c.if1.true) (put_none (omega arith))
 
 put-bytes-requires : tie.Need-put-bytes-requires
 put-bytes-requires c κs = search rules
@@ -25,7 +25,7 @@ same_length c = search rules
 
 returns-2 : tie.Need-returns-2
 unfolding labelled
-returns-2 c = simp (sym c.before.before.before.before.before.before.before.before.before.is-empty.ensures ∙ c.before.before.before.before.before.before.before.before.if1.false) (put_then (omega arith) c.before.before.before.before.before.before.put-bytes.ensures c.before.before.put-set.ensures)
+returns-2 c = simp (sym c.before.before.before.before.before.before.before.before.before.is_empty_lem.ensures ∙ c.before.before.before.before.before.before.before.before.if1.false) (put_then (omega arith) c.before.before.before.before.before.before.put-bytes.ensures c.before.before.put-set.ensures)
 
 pub put-labelled-spec : {M : Type 1} → statement M
 put-labelled-spec =

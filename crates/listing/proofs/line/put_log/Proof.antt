@@ -2,8 +2,8 @@
 use native.Mathlib.Omega.{arith}
 use borrow.Author.Rules.{rules}
 use Rattle.text.proofs.Laws.{put_then}
-use Rattle.tracker.proofs.Sizes.{log-sized}
-use Rattle.listing.proofs.Lines.{log-none, put_entries}
+use Rattle.tracker.proofs.Sizes.{log_sized}
+use Rattle.listing.proofs.Lines.{log_none, put_entries}
 use Rattle.listing.proofs.line.put_log.Statement.{statement}
 use Rattle.listing.proofs.line.put_log.Tie as tie
 
@@ -17,7 +17,7 @@ same_length : tie.Need-same-length
 same_length c = search rules
 
 returns : tie.Need-returns
-returns c = rw (log-none c.before.before.before.before.before.before.before.before.before.before.args.t3 c.before.before.before.before.if1.true) (put_then (omega arith) c.before.before.before.before.before.before.before.put_byte.ensures c.before.before.put-byte2.ensures)
+returns c = rw (log_none c.before.before.before.before.before.before.before.before.before.before.args.t3 c.before.before.before.before.if1.true) (put_then (omega arith) c.before.before.before.before.before.before.before.put_byte.ensures c.before.before.put-byte2.ensures)
 
 element-copy-out-first : tie.Need-element-copy-out-first
 element-copy-out-first c = search rules
@@ -37,7 +37,7 @@ same-length-2 c = search rules
 returns-2 : tie.Need-returns-2
 returns-2 c =
     let s = c.before.before.before.before.before.before.before.before.before.before.before.before.before.before.before.before.before.before.before in
-    put_entries s.args.t3 _ (log-sized s.args.t3 s.well-formed.1.1.0) c.before.before.before.before.before.before.before.before.before.before.before.before.before.if1.false (omega (arith, s.well-formed, s.ranges)) (omega (arith, s.well-formed, s.ranges))
+    put_entries s.args.t3 _ (log_sized s.args.t3 s.well_formed_lem.1.1.0) c.before.before.before.before.before.before.before.before.before.before.before.before.before.if1.false (omega (arith, s.well_formed_lem, s.ranges)) (omega (arith, s.well_formed_lem, s.ranges))
     c.before.before.before.before.before.before.before.before.before.before.before.before.before.before.before.before.put_byte.ensures c.before.before.before.before.before.before.before.before.before.before.put-entry.ensures c.before.before.before.before.before.before.put-more.ensures c.before.before.put-byte3.ensures
 
 pub put-log-spec : {M : Type 1} → statement M

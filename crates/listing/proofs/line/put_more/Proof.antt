@@ -2,8 +2,8 @@
 use Prim.Native.Nat.{◌-◌}
 use native.Mathlib.Omega.{arith}
 use borrow.Author.Rules.{rules}
-use Rattle.tracker.proofs.Sizes.{log-sized}
-use Rattle.listing.proofs.Lines.{More, more-start, more-next, more-done, more-out, more-length}
+use Rattle.tracker.proofs.Sizes.{log_sized}
+use Rattle.listing.proofs.Lines.{More, more-start, more-next, more-done, more_out, more-length}
 use Rattle.listing.proofs.line.put_more.Statement.{statement}
 use Rattle.listing.proofs.line.put_more.Tie as tie
 
@@ -16,7 +16,7 @@ decreases-loop out₀ at log p₀ n i₀ out p i = 256 - i
 loop-holds : tie.Need-loop-init invariant-loop decreases-loop
 loop-holds c =
     let s = c.before in
-    more-start _ (log-sized s.args.t3 s.well-formed.1.1.0) (omega arith) (omega arith)
+    more-start _ (log_sized s.args.t3 s.well_formed_lem.1.1.0) (omega arith) (omega arith)
 
 same_length : tie.Need-same-length invariant-loop decreases-loop
 same_length c = search (rules, more-length)
@@ -46,7 +46,7 @@ same-length-2 : tie.Need-same-length-2 invariant-loop decreases-loop
 same-length-2 c = search (rules, more-length)
 
 returns-2 : tie.Need-returns-2 invariant-loop decreases-loop
-returns-2 c = search (rules, more-out)
+returns-2 c = search (rules, more_out)
 
 pub put-more-spec : {M : Type 1} → statement M
 put-more-spec =

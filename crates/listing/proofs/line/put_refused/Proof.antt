@@ -2,7 +2,7 @@
 use native.Mathlib.Omega.{arith}
 use borrow.Author.Rules.{rules}
 use Rattle.text.proofs.Laws.{rest_all, rest_put, rest-last, put-length}
-use Rattle.listing.specs.Lines.{refusedLine}
+use Rattle.listing.specs.Lines.{refused_line}
 use Rattle.listing.proofs.line.put_refused.Statement.{statement}
 use Rattle.listing.proofs.line.put_refused.Tie as tie
 
@@ -31,10 +31,10 @@ put-byte-requires : tie.Need-put-byte-requires
 put-byte-requires c κs = search rules
 
 returns : tie.Need-returns
-unfolding refusedLine
+unfolding refused_line
 returns c =
     let s = c.before.before.before.before.before.before.before.before.before.before.before.before.before.before.before.before.before.before.before.before.before.before.before.before.before.before.before in
-    rest-last (rest_put (rest_put (rest_put (rest_put (rest_put (rest_all (omega (arith, s.well-formed, s.ranges)) (omega (arith, s.well-formed, s.ranges))) c.before.before.before.before.before.before.before.before.before.before.before.before.before.before.before.before.before.before.before.before.before.before.before.before.put-decimal.ensures) c.before.before.before.before.before.before.before.before.before.before.before.before.before.before.before.before.before.before.before.put-bytes.ensures) c.before.before.before.before.before.before.before.before.before.before.before.before.before.before.before.put-decimal2.ensures) c.before.before.before.before.before.before.before.before.before.before.put-bytes2.ensures) c.before.before.before.before.before.before.put-decimal3.ensures) c.before.before.put_byte.ensures
+    rest-last (rest_put (rest_put (rest_put (rest_put (rest_put (rest_all (omega (arith, s.well_formed_lem, s.ranges)) (omega (arith, s.well_formed_lem, s.ranges))) c.before.before.before.before.before.before.before.before.before.before.before.before.before.before.before.before.before.before.before.before.before.before.before.before.put-decimal.ensures) c.before.before.before.before.before.before.before.before.before.before.before.before.before.before.before.before.before.before.before.put-bytes.ensures) c.before.before.before.before.before.before.before.before.before.before.before.before.before.before.before.put-decimal2.ensures) c.before.before.before.before.before.before.before.before.before.before.put-bytes2.ensures) c.before.before.before.before.before.before.put-decimal3.ensures) c.before.before.put_byte.ensures
 
 same_length : tie.Need-same-length
 same_length c = put-length (returns c)

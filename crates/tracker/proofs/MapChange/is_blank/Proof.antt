@@ -1,6 +1,6 @@
 -- `MapChange::is_blank` tests the id, then the kind, as the definition does. Assumes nothing.
 use borrow.Author.Rules.{rules}
-use Rattle.tracker.proofs.Answers.{blank-id, blank-add, blank-remove}
+use Rattle.tracker.proofs.Answers.{blank-id, blank_add, blank_remove}
 use Rattle.tracker.proofs.MapChange.is_blank.Statement.{statement}
 use Rattle.tracker.proofs.MapChange.is_blank.Tie as tie
 
@@ -14,10 +14,10 @@ enum-told-2 : tie.Need-enum-told-2
 enum-told-2 c = search rules
 
 returns-2 : tie.Need-returns-2
-returns-2 c = search (rules, blank-add)
+returns-2 c = search (rules, blank_add)
 
 returns-3 : tie.Need-returns-3
-returns-3 c = search (rules, blank-remove)
+returns-3 c = search (rules, blank_remove)
 
 pub is-blank-spec : {M : Type 1} → statement M
 is-blank-spec = tie.close (tie.spec returns enum_told enum-told-2 returns-2 returns-3)

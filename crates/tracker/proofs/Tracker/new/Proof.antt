@@ -1,7 +1,7 @@
 -- `Tracker::new` makes the fresh state: each of its parts is what a constructor ensures. Assumes nothing.
 use borrow.Author.Rules.{rules}
 use Rattle.rules.specs.State.{ids}
-use Rattle.tracker.specs.Bridge.{recordPlaces, recordsOf}
+use Rattle.tracker.specs.Bridge.{record_places, records_of}
 use Rattle.tracker.proofs.Tracker.new.Statement.{statement}
 use Rattle.tracker.proofs.Tracker.new.Tie as tie
 
@@ -15,7 +15,7 @@ unused-requires : tie.Need-unused-requires
 unused-requires c κs = search rules
 
 returns : tie.Need-returns
-unfolding recordPlaces recordsOf ids
+unfolding record_places records_of ids
 returns c = cc
 
 pub new_spec : {M : Type 1} → statement M

@@ -41,7 +41,7 @@ use denote.Triple.Spec.{Meets, triple_of}
 use denote.Triple.Table.{entered, cited}
 use denote.Triple.Walked.{says, Stays, stay_none, walk_of, AllGo, Goes-none, Walks, ends_at, walked, walk_Meets}
 use denote.Exit.{yes}
-use Rattle.tracker.specs.Apply.{applyOf, verdictIn}
+use Rattle.tracker.specs.Apply.{apply_of, verdict_in}
 use Rattle.tracker.specs.declared.Tracker.{Tracker}
 use Rattle.tracker.specs.declared.Configuration.{Configuration}
 use Rattle.tracker.specs.declared.ChangeLog.{ChangeLog}
@@ -101,7 +101,7 @@ module _ {M : Type 1} {𝓤 : Ura M} (𝓛 : Logic 𝓤) (at_mem : Memory → SP
   at = (mt h ∷ [], (mc ∷ [], (ml ∷ [], (vint w64 n ∷ [], tt))))
 
   abbrev found : Outcome
-  found = applyOf h cf lg n
+  found = apply_of h cf lg n
 
   abbrev Post : Val → SProp 𝓤
   Post = (walk_of 𝓛 app.ended stayed (app.clauses 𝓛 at_mem run)).post ((tt, tt, tt, x, at), tt)
@@ -126,7 +126,7 @@ module _ {M : Type 1} {𝓤 : Ura M} (𝓛 : Logic 𝓤) (at_mem : Memory → SP
     ois : Is P.the_row (out r w) (LL.vals P.the_type P'.the_laws (out r w))
     ois = LL.owes P.the_type P'.the_laws (out r w) ((LL.owed Vd.the_type Vd'.the_laws r _ vis).0, ((LL.owed Vd.the_type Vd'.the_laws r _ vis).1.0, (tis, tt)))
 
-    exits : r ≡ verdictIn found → w ≡ found.tracker → ent 𝓤 (sem 𝓛 ftrue) (Post (LL.val P.the_type P'.the_laws (out r w)))
+    exits : r ≡ verdict_in found → w ≡ found.tracker → ent 𝓤 (sem 𝓛 ftrue) (Post (LL.val P.the_type P'.the_laws (out r w)))
     exits e f =
         qed 𝓛 (‵ ftrue ∷ []) ∵
         suffices ! _ (ends_at 𝓛 app.ended stayed (app.clauses 𝓛 at_mem run) ((tt, tt, tt, x, at), tt) (LL.val P.the_type P'.the_laws (out r w)) (out r w) (tt, (tt, (tt, (tt, tt)))) (tt, (tt, (tt, (tt, tt))))) $
@@ -155,8 +155,8 @@ module _ {M : Type 1} {𝓤 : Ura M} (𝓛 : Logic 𝓤) (at_mem : Memory → SP
         calls_at ! fm (Core 𝓛 at_mem run) known (to l₅ α δ) (and_then ! (load ! (from ! (stop !)) (look ! 4 refl)) (and_then ! (load ! (from ! (stop !)) (look ! 13 refl)) (and_then ! (load ! (from ! (stop !)) (look ! 11 refl)) (and_then ! (load ! (from ! (stop !)) (look ! 9 refl)) (no_more !))))) (λ u.
         use1 𝓛 (later (some (λ (r : Verdict). ((‵ (flft (α ∷ []) full_share) ⊛ ‵ ftrue) ⊛ ‵ ((Vd.the_row).own_val r (u ∷ []))) ⊛ raw (ensured 𝓛 inner.ended (inner.clauses 𝓛 at_mem run) (α ∷ [], tt) (ref l₅ δ, (cf, (lg, (n, tt)))) tt r)))) (id⊢ 𝓤 _) $ await ! tt $ pick ! (λ r.
         split ! $ move ! (1 ∷ []) $
-        use1 𝓛 (some (λ (ws : Lasts inner.ended (α ∷ [], tt) (ref l₅ δ, (cf, (lg, (n, tt))))). ‵ (lasts inner.ended (α ∷ [], tt) (ref l₅ δ, (cf, (lg, (n, tt)))) ws) ⊛ raw (fact 𝓤 ((r ≡ verdictIn found) × (ws.0 ≡ found.tracker))))) (id⊢ 𝓤 _) $ pick ! (λ ws.
-        split ! $ move ! (1 ∷ []) $ heard ! ((r ≡ verdictIn found) × (ws.0 ≡ found.tracker)) (λ e. fsplit ! $ move ! (2 ∷ []) $ split ! $ split ! $ move ! (2 ∷ []) $
+        use1 𝓛 (some (λ (ws : Lasts inner.ended (α ∷ [], tt) (ref l₅ δ, (cf, (lg, (n, tt))))). ‵ (lasts inner.ended (α ∷ [], tt) (ref l₅ δ, (cf, (lg, (n, tt)))) ws) ⊛ raw (fact 𝓤 ((r ≡ verdict_in found) × (ws.0 ≡ found.tracker))))) (id⊢ 𝓤 _) $ pick ! (λ ws.
+        split ! $ move ! (1 ∷ []) $ heard ! ((r ≡ verdict_in found) × (ws.0 ≡ found.tracker)) (λ e. fsplit ! $ move ! (2 ∷ []) $ split ! $ split ! $ move ! (2 ∷ []) $
         -- [what the verdict owns; the token; true; _5's last value; true; the lender's part; room for _8; …; _7; …; room for _6; …; that _5 dies; _4; …]
         peeks ! Vd.the_row (Is Vd.the_row) (shows 𝓛 Vd.the_row) r (u ∷ []) (λ vis.
         land ! (from ! (stop !)) (init ! 10 refl ((LL.lawful Vd.the_type Vd'.the_laws 𝓛).typed r _ vis).0) $

@@ -1,6 +1,6 @@
 -- `apply`: three tests, then the log; nothing has changed where it is refused. Assumes nothing.
 use borrow.Author.Rules.{rules}
-use Rattle.tracker.proofs.EnrolApply.{apply-1, apply-2, apply-3, apply-rostered, apply-full, apply-done}
+use Rattle.tracker.proofs.EnrolApply.{apply_1, apply_2, apply_3, apply_rostered, apply-full, apply-done}
 use Rattle.tracker.proofs.apply.apply.Statement.{statement}
 use Rattle.tracker.proofs.apply.apply.Tie as tie
 
@@ -11,7 +11,7 @@ refused-requires : tie.Need-refused-requires
 refused-requires c κs = search rules
 
 returns : tie.Need-returns
-returns c = apply-1 _ _ _ _ _ c.before.before.is-malformed.ensures _ c.refused.ensures c.before.if1.true
+returns c = apply_1 _ _ _ _ _ c.before.before.is-malformed.ensures _ c.refused.ensures c.before.if1.true
 
 is-malformed-requires-2 : tie.Need-is-malformed-requires-2
 is-malformed-requires-2 c κs = search rules
@@ -20,7 +20,7 @@ refused-requires-2 : tie.Need-refused-requires-2
 refused-requires-2 c κs = search rules
 
 returns-2 : tie.Need-returns-2
-returns-2 c = apply-2 _ _ _ _ _ c.before.before.before.before.is-malformed.ensures _ c.refused2.ensures c.before.before.before.if1.false _ c.before.before.is-malformed2.ensures c.before.if2.true
+returns-2 c = apply_2 _ _ _ _ _ c.before.before.before.before.is-malformed.ensures _ c.refused2.ensures c.before.before.before.if1.false _ c.before.before.is-malformed2.ensures c.before.if2.true
 
 is-malformed-requires-3 : tie.Need-is-malformed-requires-3
 is-malformed-requires-3 c κs = search rules
@@ -31,7 +31,7 @@ refused-requires-3 c κs = search rules
 returns-3 : tie.Need-returns-3
 returns-3 c =
     let w = c.before.before.before in
-    apply-3 _ _ _ _ _ w.before.before.before.is-malformed.ensures _ c.refused3.ensures w.before.before.if1.false _ w.before.is-malformed2.ensures w.if2.false _ c.before.before.is-malformed3.ensures c.before.if3.true
+    apply_3 _ _ _ _ _ w.before.before.before.is-malformed.ensures _ c.refused3.ensures w.before.before.if1.false _ w.before.is-malformed2.ensures w.if2.false _ c.before.before.is-malformed3.ensures c.before.if3.true
 
 fresh-requires : tie.Need-fresh-requires
 fresh-requires c κs = search rules
@@ -39,7 +39,7 @@ fresh-requires c κs = search rules
 enrol-requires : tie.Need-enrol-requires
 enrol-requires c κs =
     let w = c.before.before.before.before.before.before.before in
-    apply-rostered _ _ w.before.is-malformed.ensures w.if1.false
+    apply_rostered _ _ w.before.is-malformed.ensures w.if1.false
 
 refused-requires-4 : tie.Need-refused-requires-4
 refused-requires-4 c κs = search rules

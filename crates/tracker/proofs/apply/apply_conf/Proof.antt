@@ -41,7 +41,7 @@ use denote.Triple.Spec.{Meets, triple_of}
 use denote.Triple.Table.{entered, cited}
 use denote.Triple.Walked.{says, Stays, stay_ref, stay_none, walk_of, AllGo, Goes-ref, Goes-none, Walks, ends_at, walked, walk_Meets}
 use denote.Exit.{yes}
-use Rattle.tracker.specs.Apply.{applyOf, verdictIn}
+use Rattle.tracker.specs.Apply.{apply_of, verdict_in}
 use Rattle.tracker.specs.declared.Tracker.{Tracker}
 use Rattle.tracker.specs.declared.Configuration.{Configuration}
 use Rattle.tracker.specs.declared.ChangeLog.{ChangeLog}
@@ -95,7 +95,7 @@ module _ {M : Type 1} {𝓤 : Ura M} (𝓛 : Logic 𝓤) (at_mem : Memory → SP
   at = (vptr b o ∷ [], (mc ∷ [], (ml ∷ [], (vint w64 n ∷ [], tt))))
 
   abbrev found : Outcome
-  found = applyOf h cf lg n
+  found = apply_of h cf lg n
 
   abbrev Post : Val → SProp 𝓤
   Post = (walk_of 𝓛 app.ended stayed (app.clauses 𝓛 at_mem run)).post (((κ, tt), (q, tt), tt, x, at), tt)
@@ -118,17 +118,17 @@ module _ {M : Type 1} {𝓤 : Ura M} (𝓛 : Logic 𝓤) (at_mem : Memory → SP
     tis : Is T.the_row r.tracker (mt r.tracker ∷ [])
     tis = (LL.owed P.the_type P'.the_laws r _ is).1.1.0
 
-    vis : Is Vd.the_row (verdictIn r) (LL.vals Vd.the_type Vd'.the_laws (verdictIn r))
-    vis = LL.owes Vd.the_type Vd'.the_laws (verdictIn r) ((LL.owed P.the_type P'.the_laws r _ is).0, ((LL.owed P.the_type P'.the_laws r _ is).1.0, tt))
+    vis : Is Vd.the_row (verdict_in r) (LL.vals Vd.the_type Vd'.the_laws (verdict_in r))
+    vis = LL.owes Vd.the_type Vd'.the_laws (verdict_in r) ((LL.owed P.the_type P'.the_laws r _ is).0, ((LL.owed P.the_type P'.the_laws r _ is).1.0, tt))
 
-    exits : r ≡ found → ent 𝓤 (sep 𝓤 (A.obs γ ((T.the_row).coded.code r.tracker)) (sep 𝓤 (A.bor κ (Body (mem T.the_row) b o γ)) (A.lft κ q))) (Post (LL.val Vd.the_type Vd'.the_laws (verdictIn r)))
+    exits : r ≡ found → ent 𝓤 (sep 𝓤 (A.obs γ ((T.the_row).coded.code r.tracker)) (sep 𝓤 (A.bor κ (Body (mem T.the_row) b o γ)) (A.lft κ q))) (Post (LL.val Vd.the_type Vd'.the_laws (verdict_in r)))
     exits e =
         qed 𝓛 (‵ (fobs γ ((T.the_row).coded.code r.tracker)) ∷ ‵ (fbor κ (Body (mem T.the_row) b o γ)) ∷ ‵ (flft κ q) ∷ []) ∵
-        suffices ! _ (ends_at 𝓛 app.ended stayed (app.clauses 𝓛 at_mem run) (((κ, tt), (q, tt), tt, x, at), tt) (LL.val Vd.the_type Vd'.the_laws (verdictIn r)) (verdictIn r) (r.tracker, (tt, (tt, (tt, tt)))) (tt, (tt, (tt, (tt, tt))))) $
-        says ! (ap verdictIn e, ap (λ (z : Outcome). z.tracker) e) $ nothing ! $ move ! (3 ∷ 0 ∷ []) $ join ! $
+        suffices ! _ (ends_at 𝓛 app.ended stayed (app.clauses 𝓛 at_mem run) (((κ, tt), (q, tt), tt, x, at), tt) (LL.val Vd.the_type Vd'.the_laws (verdict_in r)) (verdict_in r) (r.tracker, (tt, (tt, (tt, tt)))) (tt, (tt, (tt, (tt, tt))))) $
+        says ! (ap verdict_in e, ap (λ (z : Outcome). z.tracker) e) $ nothing ! $ move ! (3 ∷ 0 ∷ []) $ join ! $
         frame ! $ feq_i ! (List Val) (vptr b o ∷ []) (vptr b o ∷ []) refl $ fjoin3 ! $ nothing ! $ owned ! u64 (Is u64) (uint_Makes 𝓛 w64) n _ (refl, fits) $ fjoin ! $
         owned ! G.the_row (Is G.the_row) (LL.makes G.the_type G'.the_plain 𝓛) lg _ lis $ fjoin ! $ owned ! K.the_row (Is K.the_row) (LL.makes K.the_type K'.the_plain 𝓛) cf _ cis $ fjoin ! $ move ! (1 ∷ 0 ∷ []) $ fjoin ! $
-        owned ! Vd.the_row (Is Vd.the_row) (LL.makes Vd.the_type Vd'.the_plain 𝓛) (verdictIn r) _ vis $ move ! (1 ∷ 0 ∷ []) $ done !
+        owned ! Vd.the_row (Is Vd.the_row) (LL.makes Vd.the_type Vd'.the_plain 𝓛) (verdict_in r) _ vis $ move ! (1 ∷ 0 ∷ []) $ done !
 
   module _ (C : Calls 𝓤 H) (Λ : Loops 𝓤 H) (fm : FmC 𝓤 H 𝓛.laws C) (known : Triple 𝓤 (C #inner) (Core 𝓛 at_mem run)) where
     walk : ent 𝓤 (on_entry 𝓛 app.signature (κ, tt) (q, tt) x at) (WpFn 𝓤 H C Λ code.function (vptr b o ∷ mc ∷ ml ∷ vint w64 n ∷ []) Post)
@@ -151,7 +151,7 @@ module _ {M : Type 1} {𝓤 : Ura M} (𝓛 : Logic 𝓤) (at_mem : Memory → SP
         rewrite ! 7 (λ (z : Val). ‵ (fat full_share P'.mir l₅ 0 z)) (ap only (LL.tells P.the_type P'.the_laws r _ is)) refl $
         -- [the tracker's cell; what it owned; the open borrow; obs; auth; _6; …; _5; …; _4; …; _3; …; _2; …; _1; …; room for _0; …]
         assigns ! (of_opd ! (load ! (from ! (fld ! refl (stop !))) (look_in ! 7 (sub ! 2 refl (whole !))))) (from ! (hop ! (look ! 15 refl) (stop !))) (store_raw ! 0 refl ((LL.lawful T.the_type T'.the_laws 𝓛).typed r.tracker _ (tis r (LL.owes P.the_type P'.the_laws r (LL.owed P.the_type P'.the_laws r _ is)))).0) $
-        assigns ! (agg ! (and_then ! (load ! (from ! (fld ! refl (stop !))) (look_in ! 7 (sub ! 0 refl (whole !)))) (and_then ! (load ! (from ! (fld ! refl (stop !))) (look_in ! 7 (sub ! 1 refl (whole !)))) (no_more !)))) (from ! (stop !)) (init ! 17 refl ((LL.lawful Vd.the_type Vd'.the_laws 𝓛).typed (verdictIn r) _ (vis r (LL.owes P.the_type P'.the_laws r (LL.owed P.the_type P'.the_laws r _ is)))).0) $
+        assigns ! (agg ! (and_then ! (load ! (from ! (fld ! refl (stop !))) (look_in ! 7 (sub ! 0 refl (whole !)))) (and_then ! (load ! (from ! (fld ! refl (stop !))) (look_in ! 7 (sub ! 1 refl (whole !)))) (no_more !)))) (from ! (stop !)) (init ! 17 refl ((LL.lawful Vd.the_type Vd'.the_laws 𝓛).typed (verdict_in r) _ (vis r (LL.owes P.the_type P'.the_laws r (LL.owed P.the_type P'.the_laws r _ is)))).0) $
         move ! (1 ∷ []) $ drop ! $ owned ! T.the_row (Is T.the_row) (LL.makes T.the_type T'.the_plain 𝓛) r.tracker _ (tis r (LL.owes P.the_type P'.the_laws r (LL.owed P.the_type P'.the_laws r _ is))) $ move ! (1 ∷ 0 ∷ []) $ closes ! tt T.the_row r.tracker (mt r.tracker ∷ []) b o $
         returns ! (look ! 15 refl) $ forget ! 3 refl $ forget ! 5 refl $ forget ! 7 refl $ forget ! 9 refl $ forget ! 11 refl $ forget ! 13 refl $ forget ! 15 refl $
         move ! (15 ∷ 16 ∷ []) $ free1 ! $ move ! (13 ∷ 14 ∷ []) $ free1 ! $ move ! (11 ∷ 12 ∷ []) $ free1 ! $ move ! (9 ∷ 10 ∷ []) $ free1 ! $ move ! (7 ∷ 8 ∷ []) $ free1 ! $ move ! (5 ∷ 6 ∷ []) $ free1 ! $ move ! (3 ∷ 4 ∷ []) $ free1 ! $ free0 ! $

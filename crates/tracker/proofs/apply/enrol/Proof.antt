@@ -1,20 +1,20 @@
 -- `enrol`: what is left of the log answers for all of it. The measure is what is left of its 256 places. Assumes nothing.
 use borrow.Author.Rules.{rules}
 use Prim.Native.Nat.{◌-◌}
-use Rattle.tracker.specs.Enrol.{peersIn}
-use Rattle.tracker.proofs.Sizes.{log-sized}
-use Rattle.tracker.proofs.EnrolLog.{Enrolling, enrol-start, enrol-end, enrol-stop, enrol-next, enrol-out}
+use Rattle.tracker.specs.Enrol.{peers_in}
+use Rattle.tracker.proofs.Sizes.{log_sized}
+use Rattle.tracker.proofs.EnrolLog.{Enrolling, enrol-start, enrol-end, enrol-stop, enrol-next, enrol_out}
 use Rattle.tracker.proofs.apply.enrol.Statement.{statement}
 use Rattle.tracker.proofs.apply.enrol.Tie as tie
 
 abbrev invariant-loop : tie.invariant-loop
-invariant-loop fresh peers₀ n entries i₀ peers i = Enrolling fresh (peersIn peers₀) n entries peers i
+invariant-loop fresh peers₀ n entries i₀ peers i = Enrolling fresh (peers_in peers₀) n entries peers i
 
 abbrev decreases-loop : tie.decreases-loop
 decreases-loop fresh peers₀ n entries i₀ peers i = 256 - i
 
 loop-holds : tie.Need-loop-init invariant-loop decreases-loop
-loop-holds c = enrol-start _ _ _ _ _ c.before.requires (log-sized c.before.args.log c.before.well-formed.1.1.0)
+loop-holds c = enrol-start _ _ _ _ _ c.before.requires (log_sized c.before.args.log c.before.well_formed_lem.1.1.0)
 
 returns : tie.Need-returns invariant-loop decreases-loop
 returns c = search (rules, enrol-end)
@@ -41,7 +41,7 @@ loop-again : tie.Need-loop-preserved invariant-loop decreases-loop
 loop-again c = enrol-next c.before.before.before.before.before.loop.invariant c.before.before.before.if1.false c.before.before.before.before.loop-test.true _ _ c.before.enter.ensures c.if2.false
 
 returns-3 : tie.Need-returns-3 invariant-loop decreases-loop
-returns-3 c = search (rules, enrol-out)
+returns-3 c = search (rules, enrol_out)
 
 pub enrol-spec : {M : Type 1} → statement M
 enrol-spec =

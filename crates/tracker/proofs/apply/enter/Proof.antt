@@ -1,6 +1,6 @@
 -- `enter` does what the entry's kind says. Assumes nothing.
 use borrow.Author.Rules.{rules}
-use Rattle.tracker.proofs.EnrolEntry.{entry-add, entry-remove}
+use Rattle.tracker.proofs.EnrolEntry.{entry_add, entry_remove}
 use Rattle.tracker.proofs.apply.enter.Statement.{statement}
 use Rattle.tracker.proofs.apply.enter.Tie as tie
 
@@ -17,10 +17,10 @@ untrack-requires : tie.Need-untrack-requires
 untrack-requires c κs = search rules
 
 returns : tie.Need-returns
-returns c = search (rules, entry-add)
+returns c = search (rules, entry_add)
 
 returns-2 : tie.Need-returns-2
-returns-2 c = search (rules, entry-remove)
+returns-2 c = search (rules, entry_remove)
 
 pub enter_spec : {M : Type 1} → statement M
 enter_spec =

@@ -1,7 +1,7 @@
 -- `remove_record` moves the gap to the last place, which gets the unused record. Assumes nothing.
 use borrow.Author.Rules.{rules}
 use Prim.Native.Nat.{◌-◌}
-use Rattle.idset.proofs.Shift.{Closing, close-start, close-end, close-next}
+use Rattle.idset.proofs.Shift.{Closing, close_start, close_end, close_next}
 use Rattle.tracker.proofs.apply.remove_record.Statement.{statement}
 use Rattle.tracker.proofs.apply.remove_record.Tie as tie
 
@@ -12,7 +12,7 @@ abbrev decreases-loop : tie.decreases-loop
 decreases-loop at out₀ i₀ out i = 63 - i
 
 loop-holds : tie.Need-loop-init invariant-loop decreases-loop
-loop-holds c = search (rules, close-start)
+loop-holds c = search (rules, close_start)
 
 add-next : tie.Need-overflow-add-next invariant-loop decreases-loop
 add-next c = search rules
@@ -36,7 +36,7 @@ loop-less : tie.Need-loop-smaller invariant-loop decreases-loop
 loop-less c = search rules
 
 loop-again : tie.Need-loop-preserved invariant-loop decreases-loop
-loop-again c = search (rules, close-next)
+loop-again c = search (rules, close_next)
 
 unused-requires : tie.Need-unused-requires invariant-loop decreases-loop
 unused-requires c κs = search rules
@@ -45,7 +45,7 @@ array-set-from-out-2 : tie.Need-array-set-from-out-2 invariant-loop decreases-lo
 array-set-from-out-2 c = search rules
 
 returns : tie.Need-returns invariant-loop decreases-loop
-returns c = search (rules, close-end)
+returns c = search (rules, close_end)
 
 pub remove-record-spec : {M : Type 1} → statement M
 remove-record-spec =

@@ -1,6 +1,6 @@
 -- `track`: an old record is written over, there is no room, or a place is made at the id's rank in both arrays. Assumes nothing.
 use borrow.Author.Rules.{rules}
-use Rattle.tracker.proofs.EnrolEntry.{at-within, add-over, add-full, add-new}
+use Rattle.tracker.proofs.EnrolEntry.{at-within, add_over, add_full, add_new}
 use Rattle.tracker.proofs.apply.track.Statement.{statement}
 use Rattle.tracker.proofs.apply.track.Tie as tie
 
@@ -24,12 +24,12 @@ array-set-from-records c =
 returns : tie.Need-returns
 returns c =
     let w = c.before.before.before.before.before in
-    add-over w.before.before.before.before.before.before.requires _ _ w.seek.ensures _ c.before.stands_at.ensures _ c.if1.true
+    add_over w.before.before.before.before.before.before.requires _ _ w.seek.ensures _ c.before.stands_at.ensures _ c.if1.true
 
 returns-2 : tie.Need-returns-2
 returns-2 c =
     let w = c.before.before.before.before.before.before in
-    add-full w.before.before.before.before.before.before.requires _ _ w.seek.ensures _ c.before.before.stands_at.ensures _ c.before.if1.false c.if2.true
+    add_full w.before.before.before.before.before.before.requires _ _ w.seek.ensures _ c.before.before.stands_at.ensures _ c.before.if1.false c.if2.true
 
 insert-record-requires : tie.Need-insert-record-requires
 insert-record-requires c κs = search rules
@@ -40,7 +40,7 @@ insert-requires c κs = search rules
 returns-3 : tie.Need-returns-3
 returns-3 c =
     let w = c.before.before.before.before.before.before.before.before.before in
-    add-new w.before.before.before.before.before.before.requires _ _ w.seek.ensures _ c.before.before.before.before.before.stands_at.ensures _ c.before.before.before.before.if1.false c.before.before.before.if2.false _ c.before.before.insert-record.ensures _ c.before.insert.ensures
+    add_new w.before.before.before.before.before.before.requires _ _ w.seek.ensures _ c.before.before.before.before.before.stands_at.ensures _ c.before.before.before.before.if1.false c.before.before.before.if2.false _ c.before.before.insert-record.ensures _ c.before.insert.ensures
 
 pub track-spec : {M : Type 1} → statement M
 track-spec =

@@ -1,14 +1,14 @@
 -- `form::used_from` walks the records from a place on: the invariant is that what is left decides. Assumes nothing.
 use borrow.Author.Rules.{rules}
 use Prim.Native.Nat.{◌-◌}
-use Rattle.tracker.specs.Form.{allUnused}
-use Rattle.tracker.proofs.Each.{Testing, test-end, test-not, test-next}
-use Rattle.tracker.proofs.Places.{unused-each}
+use Rattle.tracker.specs.Form.{all_unused}
+use Rattle.tracker.proofs.Each.{Testing, test_end, test_not, test_next}
+use Rattle.tracker.proofs.Places.{unused_each}
 use Rattle.tracker.proofs.form.used_from.Statement.{statement}
 use Rattle.tracker.proofs.form.used_from.Tie as tie
 
 abbrev invariant-loop : tie.invariant-loop
-invariant-loop from records i₀ i = Testing allUnused from records i
+invariant-loop from records i₀ i = Testing all_unused from records i
 
 abbrev decreases-loop : tie.decreases-loop
 decreases-loop from records i₀ i = 64 - i
@@ -26,7 +26,7 @@ is-unused-requires : tie.Need-is-unused-requires invariant-loop decreases-loop
 is-unused-requires c κs = search rules
 
 returns : tie.Need-returns invariant-loop decreases-loop
-returns c = search (rules, test-not unused-each)
+returns c = search (rules, test_not unused_each)
 
 add-i : tie.Need-overflow-add-i invariant-loop decreases-loop
 add-i c = search rules
@@ -35,10 +35,10 @@ loop-less : tie.Need-loop-smaller invariant-loop decreases-loop
 loop-less c = search rules
 
 loop-again : tie.Need-loop-preserved invariant-loop decreases-loop
-loop-again c = search (rules, test-next unused-each)
+loop-again c = search (rules, test_next unused_each)
 
 returns-2 : tie.Need-returns-2 invariant-loop decreases-loop
-returns-2 c = search (rules, test-end unused-each)
+returns-2 c = search (rules, test_end unused_each)
 
 pub used-from-spec : {M : Type 1} → statement M
 used-from-spec =

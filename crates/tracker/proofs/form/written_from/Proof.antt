@@ -1,14 +1,14 @@
 -- `form::written_from` walks the entries from a place on: the invariant is that what is left decides. Assumes nothing.
 use borrow.Author.Rules.{rules}
 use Prim.Native.Nat.{◌-◌}
-use Rattle.tracker.specs.Form.{allBlank}
-use Rattle.tracker.proofs.Each.{Testing, test-end, test-not, test-next}
+use Rattle.tracker.specs.Form.{all_blank}
+use Rattle.tracker.proofs.Each.{Testing, test_end, test_not, test_next}
 use Rattle.tracker.proofs.Places.{blank-each}
 use Rattle.tracker.proofs.form.written_from.Statement.{statement}
 use Rattle.tracker.proofs.form.written_from.Tie as tie
 
 abbrev invariant-loop : tie.invariant-loop
-invariant-loop from entries i₀ i = Testing allBlank from entries i
+invariant-loop from entries i₀ i = Testing all_blank from entries i
 
 abbrev decreases-loop : tie.decreases-loop
 decreases-loop from entries i₀ i = 256 - i
@@ -26,7 +26,7 @@ is-blank-requires : tie.Need-is-blank-requires invariant-loop decreases-loop
 is-blank-requires c κs = search rules
 
 returns : tie.Need-returns invariant-loop decreases-loop
-returns c = search (rules, test-not blank-each)
+returns c = search (rules, test_not blank-each)
 
 add-i : tie.Need-overflow-add-i invariant-loop decreases-loop
 add-i c = search rules
@@ -35,10 +35,10 @@ loop-less : tie.Need-loop-smaller invariant-loop decreases-loop
 loop-less c = search rules
 
 loop-again : tie.Need-loop-preserved invariant-loop decreases-loop
-loop-again c = search (rules, test-next blank-each)
+loop-again c = search (rules, test_next blank-each)
 
 returns-2 : tie.Need-returns-2 invariant-loop decreases-loop
-returns-2 c = search (rules, test-end blank-each)
+returns-2 c = search (rules, test_end blank-each)
 
 pub written-from-spec : {M : Type 1} → statement M
 written-from-spec =
