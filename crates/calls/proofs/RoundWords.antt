@@ -4,7 +4,7 @@ use mathlib.Core.Path.{◌≡◌, refl, ap, sym, ◌∙◌}
 use mathlib.Core.List.{List, [], ◌∷◌, ◌++◌, append_assoc}
 use native.Mathlib.Nat.{div-lt_iff_lt-mul, pow-suc, add-zero}
 use native.Mathlib.Omega.{arith}
-use lib.ListN.{length, length_append, get_or, get_or-append}
+use lib.ListN.{length, length-append, get_or, get_or-append}
 use lib.Seq.{get_or-append-add, get_or_at}
 use Rattle.unplug.specs.Words.{words_by}
 use Rattle.calls.specs.Layout.{number, word, words}
@@ -26,7 +26,7 @@ number-back (suc j) n p r at e h =
     let q = bytes j (n / 256) ++ r in
     let less : n / 256 < 256 ^ j = shorter j n h in
     let first : get_or (p ++ (b ∷ q)) at 0 ≡ b = get_or_at p b q 0 at e in
-    let longer : length (p ++ (b ∷ [])) ≡ at + 1 = omega (arith, length_append p (b ∷ [])) in
+    let longer : length (p ++ (b ∷ [])) ≡ at + 1 = omega (arith, length-append p (b ∷ [])) in
     let others : number j ((p ++ (b ∷ [])) ++ q) (at + 1) ≡ n / 256 = number-back j (n / 256) (p ++ (b ∷ [])) r (at + 1) longer less in
     let same : number j (p ++ (b ∷ q)) (at + 1) ≡ n / 256 = ap (λ (l : List ℕ). number j l (at + 1)) (sym (append_assoc p (b ∷ []) q)) ∙ others in
     omega (arith, first, same)
@@ -48,7 +48,7 @@ reads-from {ws = w ∷ ws} p r k e (more m ms) zero h =
     ap (λ (l : List ℕ). word (p ++ l) (k + 0)) (append_assoc (word_bytes w) (all_bytes ws) r) ∙ word_back w (k + 0) p (all_bytes ws ++ r) (omega arith) m
 reads-from {ws = w ∷ ws} p r k e (more m ms) (suc i) h =
     let rest = all_bytes ws ++ r in
-    let longer : length (p ++ word_bytes w) ≡ 8 * (k + 1) = omega (arith, length_append p (word_bytes w), word-length w) in
+    let longer : length (p ++ word_bytes w) ≡ 8 * (k + 1) = omega (arith, length-append p (word_bytes w), word-length w) in
     let same : p ++ ((word_bytes w ++ all_bytes ws) ++ r) ≡ (p ++ word_bytes w) ++ rest = ap (λ (l : List ℕ). p ++ l) (append_assoc (word_bytes w) (all_bytes ws) r) ∙ sym (append_assoc p (word_bytes w) rest) in
     let place : k + suc i ≡ (k + 1) + i = omega arith in
     ap (λ (l : List ℕ). word l (k + suc i)) same ∙ (ap (λ (n : ℕ). word ((p ++ word_bytes w) ++ rest) n) place ∙ reads-from (p ++ word_bytes w) r (k + 1) longer ms i (omega arith))
@@ -60,13 +60,13 @@ reads_all r m = record { at = reads-from [] r 0 refl m }
 
 module _ {s : List ℕ} {k : ℕ} (xs ys : List ℕ) (f : Reads s k (xs ++ ys)) where
   pub reads-left : Reads s k xs
-  reads-left = record { at = λ i h. f.at i (omega (arith, length_append xs ys)) ∙ get_or-append xs ys 0 i h }
+  reads-left = record { at = λ i h. f.at i (omega (arith, length-append xs ys)) ∙ get_or-append xs ys 0 i h }
 
   pub reads_right : (m : ℕ) → k + length xs ≡ m → Reads s m ys
   reads_right m e = record {
     at = λ i h.
         let place : m + i ≡ k + (length xs + i) = omega arith in
-        ap (λ (n : ℕ). word s n) place ∙ (f.at (length xs + i) (omega (arith, length_append xs ys)) ∙ get_or-append-add xs ys i 0);
+        ap (λ (n : ℕ). word s n) place ∙ (f.at (length xs + i) (omega (arith, length-append xs ys)) ∙ get_or-append-add xs ys i 0);
   }
 
 module _ {s : List ℕ} {k w : ℕ} {ws : List ℕ} (f : Reads s k (w ∷ ws)) where

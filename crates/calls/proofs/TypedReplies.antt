@@ -5,7 +5,7 @@ use mathlib.Core.Bool.{Bool, true, false, ◌&&◌, ◌||◌, not, cond}
 use mathlib.Core.List.{List}
 use native.Mathlib.Nat.{pow-suc}
 use native.Mathlib.Omega.{arith}
-use borrow.Author.Tests.{not_false}
+use borrow.Author.Tests.{not-false}
 use lib.Dec.{eqb}
 use lib.ListN.{length, take, get_or, length-take}
 use Rattle.rules.specs.State.{Conf, Entry, State, conf_formed, formed, ids, log_formed}
@@ -95,7 +95,7 @@ apply-formed s f c log next = go (ill ▸ room log (ids s.peers)) refl
     go (fault n x) e = f
     go ok e =
         let bad = refuse-ok (not (formed s) || not (conf_formed c) || not (log_formed log)) 1 0 (then_left ill (room log (ids s.peers)) e) in
-        let fits = not_false (conf_formed c) (or_right (not (formed s)) (not (conf_formed c)) (or_left (not (formed s) || not (conf_formed c)) (not (log_formed log)) bad)) in
+        let fits = not-false (conf_formed c) (or_right (not (formed s)) (not (conf_formed c)) (or_left (not (formed s) || not (conf_formed c)) (not (log_formed log)) bad)) in
         of-whole (applied s c log next)
         (record { sets = sets_of c fits; tracked = rw ids-enrol (pending-set log (ids s.peers) (whole_of s f).tracked (then_right ill (room log (ids s.peers)) e)) })
 
@@ -150,8 +150,8 @@ module _ {t : Tracker} (z : TypedState t) {next : ℕ} (n : U64 next) where
 
 -- ** A request
 
-length_take_le : (n m : ℕ) (xs : List ℕ) → length xs ≡ m → length (take n xs) ≤ m
-length_take_le n m xs h = omega (arith, length-take n xs)
+length-take-le : (n m : ℕ) (xs : List ℕ) → length xs ≡ m → length (take n xs) ≤ m
+length-take-le n m xs h = omega (arith, length-take n xs)
 
 abbrev pub Byte : ℕ → Type 0
 Byte n = n < 256
@@ -275,7 +275,7 @@ module _ {s : List ℕ} (p : Each Byte s) where
       let z = state_typed p 1 in
       let n = word_typed p 969 in
       let xs = each_take (word s 1230) (words_typed p 260 970).each in
-      let few = length_take_le (word s 1230) 260 (words 260 s 970) (words_typed p 260 970).places in
+      let few = length-take-le (word s 1230) 260 (words 260 s 970) (words_typed p 260 970).places in
       either TypedReply (eqb (word s 0) 0) (check_typed z)
       (either TypedReply (eqb (word s 0) 1) (plain_typed z (in_order_of (state_at s 1)) (omega arith) (omega arith))
       (either TypedReply (eqb (word s 0) 2) (from_answer_typed z (simple_typed z (kinds_in s) few xs))

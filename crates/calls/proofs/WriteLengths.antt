@@ -3,7 +3,7 @@ use Prim.Native.Nat.{ℕ, ◌*◌}
 use mathlib.Core.Path.{◌≡◌, refl}
 use mathlib.Core.List.{List, [], ◌∷◌, ◌++◌}
 use native.Mathlib.Omega.{arith}
-use lib.ListN.{length, length_append}
+use lib.ListN.{length, length-append}
 use Rattle.progress.specs.declared.Progress.{Progress}
 use Rattle.idset.specs.declared.IdSet.{IdSet}
 use Rattle.tracker.specs.declared.Configuration.{Configuration}
@@ -26,18 +26,18 @@ word-length n = refl
 pub all-length : (ws : List ℕ) → length (all_bytes ws) ≡ 8 * length ws
 unfolding all_bytes
 all-length [] = refl
-all-length (w ∷ ws) = omega (arith, length_append (word_bytes w) (all_bytes ws), word-length w, all-length ws)
+all-length (w ∷ ws) = omega (arith, length-append (word_bytes w) (all_bytes ws), word-length w, all-length ws)
 
 -- ** Words
 
 pub set-length : {s : IdSet} → TypedSet s → length (set_words s) ≡ 65
-set-length {s} z = omega (arith, length_append s.ids (s.len ∷ []), z.ids.places)
+set-length {s} z = omega (arith, length-append s.ids (s.len ∷ []), z.ids.places)
 
 pub list_length : {l : IdList} → TypedList l → length (list_words l) ≡ 65
-list_length {l} z = omega (arith, length_append l.ids (l.len ∷ []), z.ids.places)
+list_length {l} z = omega (arith, length-append l.ids (l.len ∷ []), z.ids.places)
 
 five_length : (a b c d : List ℕ) (w : ℕ) → length a ≡ 65 → length b ≡ 65 → length c ≡ 65 → length d ≡ 65 → length (a ++ (b ++ (c ++ (d ++ (w ∷ []))))) ≡ 261
-five_length a b c d w p q r s = omega (arith, length_append a (b ++ (c ++ (d ++ (w ∷ [])))), length_append b (c ++ (d ++ (w ∷ []))), length_append c (d ++ (w ∷ [])), length_append d (w ∷ []))
+five_length a b c d w p q r s = omega (arith, length-append a (b ++ (c ++ (d ++ (w ∷ [])))), length-append b (c ++ (d ++ (w ∷ []))), length-append c (d ++ (w ∷ [])), length-append d (w ∷ []))
 
 pub conf-length : {c : Configuration} → TypedConf c → length (conf_words c) ≡ 261
 unfolding conf_words
@@ -54,7 +54,7 @@ record_length p = refl
 pub records-length : (ps : List Progress) → length (records_words ps) ≡ 10 * length ps
 unfolding records_words
 records-length [] = refl
-records-length (p ∷ ps) = omega (arith, length_append (record_words p) (records_words ps), record_length p, records-length ps)
+records-length (p ∷ ps) = omega (arith, length-append (record_words p) (records_words ps), record_length p, records-length ps)
 
 pub state-length : {t : Tracker} → TypedState t → length (state_words t) ≡ 967
 unfolding state_words
@@ -63,7 +63,7 @@ state-length {t} z =
     let b = set_words t.ids in
     let c = records_words t.records in
     let d = t.max_inflight ∷ [] in
-    omega (arith, length_append a (b ++ (c ++ d)), length_append b (c ++ d), length_append c d, conf-length z.conf, set-length z.ids, records-length t.records, z.records.places)
+    omega (arith, length-append a (b ++ (c ++ d)), length-append b (c ++ d), length-append c d, conf-length z.conf, set-length z.ids, records-length t.records, z.records.places)
 
 pub entries_length : (es : List MapChange) → length (entries_words es) ≡ 2 * length es
 unfolding entries_words
@@ -72,7 +72,7 @@ entries_length (e ∷ es) = omega (arith, entries_length es)
 
 pub log-length : {l : ChangeLog} → TypedLog l → length (log_words l) ≡ 513
 unfolding log_words
-log-length {l} z = omega (arith, length_append (entries_words l.entries) (l.count ∷ []), entries_length l.entries, z.entries.places)
+log-length {l} z = omega (arith, length-append (entries_words l.entries) (l.count ∷ []), entries_length l.entries, z.entries.places)
 
 words-length : {r : Reply} → TypedReply r → length (reply_words r) ≡ 1745
 unfolding reply_words
@@ -81,7 +81,7 @@ words-length {r} z =
     let b = log_words r.log in
     let c = conf_state_words r.conf_state in
     let d = r.idle ∷ [] in
-    omega (arith, length_append a (b ++ (c ++ d)), length_append b (c ++ d), length_append c d, state-length z.tracker, log-length z.log, conf-state-length z.conf_state)
+    omega (arith, length-append a (b ++ (c ++ d)), length-append b (c ++ d), length-append c d, state-length z.tracker, log-length z.log, conf-state-length z.conf_state)
 
 pub reply-length : {r : Reply} → TypedReply r → length (all_bytes (reply_words r)) ≡ 13960
 reply-length {r} z = omega (arith, all-length (reply_words r), words-length z)

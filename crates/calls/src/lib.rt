@@ -1,5 +1,7 @@
 // One call on any state, in bytes; one question about a box, in words; ConfState as it travels, and two of them compared: docs/EMBEDDING.md has the layout.
 // This is how another language embeds the library, and how it is compared with the Rust.
+#![tactic(auto)]
+
 ghost use Rattle.std.specs.Prelude.{◌≡◌, min, length};
 ghost use Rattle.tracker.specs.ConfStates.{written_of};
 ghost use Rattle.confstate.specs.Entries.{read_answer, read_leaves, write_answer, write_leaves};

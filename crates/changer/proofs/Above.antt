@@ -6,7 +6,7 @@ use mathlib.Core.List.{List, [], ◌∷◌}
 use native.Mathlib.Numerals.{add-one}
 use borrow.Author.Tests.{lt-ltb, le-ltb}
 use lib.Dec.{ltb}
-use lib.ListN.{length, drop, get_or, drop_of_length_le}
+use lib.ListN.{length, drop, get_or, drop_of_length-le}
 use lib.Seq.{drop-cons}
 use Rattle.rules.specs.Answers.{Verdict, each, refuse, ◌▸◌}
 use Rattle.changer.specs.Before.{any_above2}
@@ -20,7 +20,7 @@ pub record Passing (ks : List ℕ) (i : ℕ) : Type 0 where
 module _ {ks : List ℕ} {i : ℕ} (s : Passing ks i) where
   pub pass_end : length ks ≤ i → false ≡ any_above2 ks
   unfolding any_above2
-  pass_end h = rw (s.same, drop_of_length_le ks h)
+  pass_end h = rw (s.same, drop_of_length-le ks h)
 
   module _ (h : i < length ks) where
     pub pass_above : 2 < get_or ks i 0 → true ≡ any_above2 ks

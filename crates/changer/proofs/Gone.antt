@@ -8,7 +8,7 @@ use lib.Dec.{eqb}
 use lib.ListN.{drop}
 use lib.Seq.{drop-drop}
 use Rattle.rules.specs.Ids.{ascending, memb, minus}
-use Rattle.rules.proofs.Sets.{memb_head, or_true, rising_tail}
+use Rattle.rules.proofs.Sets.{memb_head, or-true, rising_tail}
 use Rattle.idset.specs.Places.{first_is, rank}
 use Rattle.idset.proofs.Bridge.{found_at, still_ahead}
 use Rattle.invariants.specs.Walk.{past}
@@ -34,7 +34,7 @@ module _ (x : ℕ) (xs : List ℕ) (a : ascending (x ∷ xs) ≡ true) (ys : Lis
   ahead_moved z m =
       let l : x < z = memb-later x z xs a m in
       let k : x ≤ z = omega arith in
-      still_ahead x z i ys b k ∙ h z (or_true (eqb x z) (memb z xs) m)
+      still_ahead x z i ys b k ∙ h z (or-true (eqb x z) (memb z xs) m)
 
 module _ (is ls : List ℕ) (p : ascending is ≡ true) (q : ascending ls ≡ true) where
   gone-from : (xs : List ℕ) → ascending xs ≡ true → (i j : ℕ) → Ahead xs is i → Ahead xs ls j → gone_walk xs (drop i is) (drop j ls) ≡ minus (minus xs is) ls

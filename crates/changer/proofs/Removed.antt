@@ -5,7 +5,7 @@ use mathlib.Core.Path.{◌≡◌, refl, ap, sym, ◌∙◌}
 use mathlib.Core.Bool.{Bool, true, false, ◌||◌, cond}
 use mathlib.Core.List.{List, [], ◌∷◌, ◌++◌, append_assoc, append-nil}
 use native.Mathlib.Omega.{arith}
-use lib.ListN.{length, drop, get_or, length_append, length-take}
+use lib.ListN.{length, drop, get_or, length-append, length-take}
 use lib.Seq.{drop-drop}
 use Rattle.rules.specs.Calls.{removals}
 use Rattle.rules.specs.State.{Entry, remove}
@@ -32,7 +32,7 @@ unfolding removing removals
 removing_after [] es h = rw append-nil
 removing_after (x ∷ xs) es h =
     let k : length es < 256 = omega arith in
-    let m : length (es ++ (remove x ∷ [])) + length xs ≤ 256 = simp length_append (omega arith) in
+    let m : length (es ++ (remove x ∷ [])) + length xs ≤ 256 = simp length-append (omega arith) in
     ap (removing xs) (push_in_lem (remove x) es k) ∙ removing_after xs (es ++ (remove x ∷ [])) m ∙ rw append_assoc
 
 gone-few : (xs is ls : List ℕ) → length (gone_walk xs is ls) ≤ length xs

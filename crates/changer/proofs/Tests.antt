@@ -4,7 +4,7 @@ use Prim.Native.Nat.{ℕ, ◌≤◌, ◌<◌}
 use mathlib.Core.Path.{◌≡◌, ◌∙◌, sym}
 use mathlib.Core.Bool.{Bool, true, false, not, cond}
 use mathlib.Core.List.{List}
-use borrow.Author.Tests.{eq-eqb, ne_eqb, lt-ltb, le-ltb, not_true, not_false}
+use borrow.Author.Tests.{eq-eqb, ne_eqb, lt-ltb, le-ltb, not-true, not-false}
 use lib.ListN.{length}
 use Rattle.rules.specs.Answers as rules
 use Rattle.rules.specs.Answers.{refuse, ◌▸◌}
@@ -28,10 +28,10 @@ said n = record { number = n; id = 0 }
 
 module _ (t : Tracker) (v : rules.Verdict) {b : Bool} (q : b ≡ not (tracker_well_formed t)) {r : Verdict} where
   pub ill_formed : b ≡ true → r ≡ said 1 → r ≡ formed_then t v
-  ill_formed h e = e ∙ rw (not_true (tracker_well_formed t) (sym q ∙ h))
+  ill_formed h e = e ∙ rw (not-true (tracker_well_formed t) (sym q ∙ h))
 
   pub well_formed_lem : b ≡ false → r ≡ verdict_of v → r ≡ formed_then t v
-  well_formed_lem h e = e ∙ rw (not_false (tracker_well_formed t) (sym q ∙ h))
+  well_formed_lem h e = e ∙ rw (not-false (tracker_well_formed t) (sym q ∙ h))
 
 -- ** 2 and 3
 

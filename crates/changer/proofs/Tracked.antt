@@ -4,7 +4,7 @@ use mathlib.Core.Path.{◌≡◌}
 use mathlib.Core.List.{List}
 use native.Mathlib.Numerals.{add-one}
 use native.Mathlib.Omega.{arith}
-use lib.ListN.{length, take, drop, get_or, length-take, drop_of_length_le}
+use lib.ListN.{length, take, drop, get_or, length-take, drop_of_length-le}
 use lib.Seq.{drop-cons, get_or-take}
 use Rattle.idset.specs.declared.IdSet.{IdSet}
 use Rattle.tracker.specs.Bridge.{entry_of, entries_of}
@@ -19,7 +19,7 @@ pub record Tracking (n : ℕ) (l : List MapChange) (s₀ s : IdSet) (i : ℕ) : 
 module _ {n : ℕ} {l : List MapChange} {s₀ s : IdSet} {i : ℕ} (t : Tracking n l s₀ s i) where
   done : length (take n l) ≤ i → s ≡ pending_in (entries_of (take n l)) s₀
   unfolding entries_of pending_in
-  done h = rw (drop_of_length_le (take n l) h) at t.same
+  done h = rw (drop_of_length-le (take n l) h) at t.same
 
   pub track-end : n ≤ i → s ≡ pending_in (entries_of (take n l)) s₀
   track-end h = done (simp length-take (omega arith))

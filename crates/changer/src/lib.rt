@@ -1,6 +1,8 @@
 // `Changer` of src/confchange/changer.rs: configuration changes, simple and joint, with the validation that refuses invalid ones before they
 // affect the active configuration. Each call takes the whole state, and a change list as ids and kinds; it answers number, id, configuration
 // and log. Tracked ids and records change only in `apply_conf`.
+#![tactic(auto)]
+
 ghost use Rattle.std.specs.Prelude.{◌≡◌, false, ◌||◌, cond, min};
 ghost use Rattle.rules.specs.Calls as rules;
 ghost use Rattle.idset.specs.Set.{held};

@@ -4,7 +4,7 @@ use mathlib.Core.Path.{◌≡◌, refl, ap, ◌∙◌, sym}
 use mathlib.Core.Bool.{Bool, true, false, ◌&&◌, not, cond}
 use mathlib.Core.List.{List, [], ◌∷◌, ◌++◌}
 use native.Mathlib.Omega.{arith}
-use borrow.Author.Tests.{lt-ltb, not_true}
+use borrow.Author.Tests.{lt-ltb, not-true}
 use lib.Dec.{eqb, leb}
 use lib.ListN.{length}
 use Rattle.progress.specs.declared.Progress.{Progress}
@@ -148,7 +148,7 @@ module _ {r : Progress} {ps : List Peer} {up : ascending (ids ps) ≡ true} {v :
       go : (b : Bool) → ((w : Work) → cond b (full x) (done u) ≡ done w → Sets w.conf)
           → cond b (full_in x (work_of ps i v)) (work_in (place_in x n (configuration_of v.conf)) (push_in x Add (change_log_of v.log)) (length tracked + 1) i) ≡ done_of ps v i i (cond b (full x) (done u))
       go true g = refl
-      go false g = entry_in (add x) n (length tracked + 1) i (g u refl) (sym (length_insert x tracked (not_true (memb x tracked) h)))
+      go false g = entry_in (add x) n (length tracked + 1) i (g u refl) (sym (length_insert x tracked (not-true (memb x tracked) h)))
   effect_in Removes n h g = rw (never (not (any_told (standing_named n) there))) (entry_in (remove x) n (length tracked - 1) i (g _ refl) (omega (arith, length_remove x tracked h)))
 
   -- where x stands

@@ -5,7 +5,7 @@ use mathlib.Core.Bool.{Bool, true, false, not}
 use mathlib.Core.List.{List, [], ◌∷◌, ◌++◌}
 use native.Mathlib.Omega.{arith}
 use borrow.Author.Tests.{lt-leb}
-use lib.ListN.{length, set, replicate, length_append}
+use lib.ListN.{length, set, replicate, length-append}
 use Rattle.rules.specs.Ids.{insert_id, memb, remove_id}
 use Rattle.rules.specs.State.{Conf, Entry}
 use Rattle.rules.specs.Table as rules
@@ -70,6 +70,6 @@ push_places (d ∷ es) e n = ap (λ (l : List MapChange). map_change_of d ∷ l)
 pub push_in_lem : (e : Entry) (es : List Entry) → length es < 256 → push_in (map_change_of e).id (map_change_of e).kind (change_log_of es) ≡ change_log_of (es ++ (e ∷ []))
 unfolding push_in change_log_of
 push_in_lem e es h =
-    let n : length (es ++ (e ∷ [])) ≡ length es + 1 = length_append es (e ∷ []) in
+    let n : length (es ++ (e ∷ [])) ≡ length es + 1 = length-append es (e ∷ []) in
     let m : 256 - length es ≡ suc (256 - (length es + 1)) = omega arith in
     rw (lt-leb 256 (length es) h, n, m, push_places es e (256 - (length es + 1)))

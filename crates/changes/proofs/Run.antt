@@ -4,7 +4,7 @@ use mathlib.Core.Path.{◌≡◌, refl, sym, ◌∙◌}
 use mathlib.Core.Bool.{Bool, true, false, cond, true≢false, false≢true}
 use mathlib.Core.List.{List, [], ◌∷◌}
 use native.Mathlib.Numerals.{add-one}
-use lib.ListN.{length, drop, get_or, drop_of_length_le}
+use lib.ListN.{length, drop, get_or, drop_of_length-le}
 use lib.Seq.{drop-cons}
 use Rattle.changes.specs.Table.{kind_in}
 use Rattle.changes.specs.Change.{change_in, changes_in}
@@ -32,10 +32,10 @@ pub record Running (base xs ks : List ℕ) (w₀ w : Work) (i : ℕ) : Type 0 wh
 module _ {base xs ks : List ℕ} {w₀ w : Work} {i : ℕ} (r : Running base xs ks w₀ w i) where
   pub run_end : length xs ≤ i → w ≡ changes_in base xs ks w₀
   unfolding changes_in
-  run_end h = rw (drop_of_length_le xs h) at r.same
+  run_end h = rw (drop_of_length-le xs h) at r.same
 
   pub run_short : length ks ≤ i → w ≡ changes_in base xs ks w₀
-  run_short h = sym (none_left base (drop i xs) w) ∙ rw (drop_of_length_le ks h) at r.same
+  run_short h = sym (none_left base (drop i xs) w) ∙ rw (drop_of_length-le ks h) at r.same
 
   module _ (h : i < length xs) (g : i < length ks) (k : Kind) (v : Work) (e : k ≡ kind_in (get_or ks i 0)) (d : v ≡ change_in base (get_or xs i 0) k w) where
     turn : cond v.full v (changes_in base (drop (i + 1) xs) (drop (i + 1) ks) v) ≡ changes_in base xs ks w₀

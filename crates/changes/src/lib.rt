@@ -1,5 +1,7 @@
 // A list of changes: `apply` of src/confchange/changer.rs. What `make_voter`, `make_learner` and `remove` do there are the columns of the
 // table of standings here (table.rt); `init_progress` is its first row.
+#![tactic(auto)]
+
 ghost use Rattle.std.specs.Prelude.{◌≡◌, ◌||◌, ◌-◌};
 ghost use Rattle.changes.specs.Change.{stands_in, put_in, changed_in, place_in, any_changed_in, one_more, idle_after, push_in, work_in, moved_in, change_in, changes_in};
 

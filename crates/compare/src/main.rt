@@ -1,5 +1,7 @@
 // Compares two files, each a ConfState as it travels: document 02, l). Prints a line for every id whose standing differs, and one for the flag; `refused N`
 // alone for a fault, and says on standard error of which file it is, and why. What is printed is the text of crate comparison.
+#![tactic(auto)]
+
 ghost use Rattle.std.specs.Prelude.{◌≤◌, length};
 
 use libc::{STDERR_FILENO, STDOUT_FILENO};

@@ -5,9 +5,9 @@ use mathlib.Core.Bool.{Bool, true, false, cond, false≢true}
 use mathlib.Core.List.{List, [], ◌∷◌, ◌++◌}
 use native.Mathlib.Nat.{div-lt_iff_lt-mul, pow-suc}
 use native.Mathlib.Omega.{arith}
-use borrow.Author.Tests.{eq-eqb, ne_eqb, ltb_true}
+use borrow.Author.Tests.{eq-eqb, ne_eqb, ltb-true}
 use lib.Dec.{eqb, ltb}
-use lib.ListN.{length, length_append}
+use lib.ListN.{length, length-append}
 use Rattle.rules.specs.Ids.{same_ids}
 use Rattle.text.specs.Text.{digits, decimal, each}
 use Rattle.comparison.specs.Compare.{standing_text}
@@ -58,7 +58,7 @@ digits-only zero n = tt
 digits-only (suc k) n = by (digits-only k (n / 10)) (ltb n 10) refl
   where
     by : Digits (digits k (n / 10)) → (t : Bool) → ltb n 10 ≡ t → Digits (cond t ((48 + n) ∷ []) (digits k (n / 10) ++ ((48 + n % 10) ∷ [])))
-    by r true t = ((omega arith, omega (arith, ltb_true n 10 t)), tt)
+    by r true t = ((omega arith, omega (arith, ltb-true n 10 t)), tt)
     by r false t = digits_append (digits k (n / 10)) ((48 + n % 10) ∷ []) r ((omega arith, omega arith), tt)
 
 digits_free : (c : ℕ) (xs : List ℕ) → c < 48 → Digits xs → free c xs ≡ true
@@ -72,7 +72,7 @@ digits-some k n = by (ltb n 10)
   where
     by : (t : Bool) → 0 < length (cond t ((48 + n) ∷ []) (digits k (n / 10) ++ ((48 + n % 10) ∷ [])))
     by true = omega arith
-    by false = omega (arith, length_append (digits k (n / 10)) ((48 + n % 10) ∷ []))
+    by false = omega (arith, length-append (digits k (n / 10)) ((48 + n % 10) ∷ []))
 
 value_append : (a : ℕ) (xs : List ℕ) (d : ℕ) → value a (xs ++ (d ∷ [])) ≡ value a xs * 10 + (d - 48)
 unfolding value

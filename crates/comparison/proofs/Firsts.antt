@@ -4,10 +4,10 @@ use mathlib.Core.Path.{◌≡◌, refl, sym, ◌∙◌}
 use mathlib.Core.Bool.{Bool, true, false, ◌&&◌, ◌||◌, cond, true≢false, false≢true}
 use mathlib.Core.List.{List, [], ◌∷◌}
 use native.Mathlib.Omega.{arith}
-use borrow.Author.Tests.{leb-true, leb-false, le_leb, eq-eqb}
+use borrow.Author.Tests.{leb-true, leb-false, le-leb, eq-eqb}
 use lib.Dec.{leb}
 use Rattle.rules.specs.State.{ConfState}
-use Rattle.rules.proofs.Sets.{or_true}
+use Rattle.rules.proofs.Sets.{or-true}
 use Rattle.idset.specs.Places.{first_is}
 use Rattle.comparison.specs.Steps.{lesser_of, least_of, next_of, firsts_of}
 use Rattle.comparison.specs.declared.line.Standing.{Standing}
@@ -26,7 +26,7 @@ not_after x (y ∷ ys) = leb x y
 after_less : (x y : ℕ) (l : List ℕ) → not_after x l ≡ true → y ≤ x → not_after y l ≡ true
 unfolding not_after
 after_less x y [] h k = refl
-after_less x y (z ∷ zs) h k = le_leb y z (omega (arith, leb-true x z h))
+after_less x y (z ∷ zs) h k = le-leb y z (omega (arith, leb-true x z h))
 
 -- a list of which the first was looked at
 pub record Seen (f : Found) (l : List ℕ) : Type 0 where
@@ -39,7 +39,7 @@ seen_now [] f = record { none = λ e. refl; low = λ e. refl }
 seen_now (y ∷ ys) f = by f.some (leb f.id y) refl refl
   where
     new : Seen (record { some = true; id = y }) (y ∷ ys)
-    new = record { none = λ e. absurd (true≢false e); low = λ e. le_leb y y (omega arith) }
+    new = record { none = λ e. absurd (true≢false e); low = λ e. le-leb y y (omega arith) }
 
     by : (s t : Bool) → f.some ≡ s → leb f.id y ≡ t → Seen (cond (s && t) f (record { some = true; id = y })) (y ∷ ys)
     by true true p q = record { none = λ e. absurd (true≢false (sym p ∙ e)); low = λ e. q }
@@ -139,9 +139,9 @@ met_all q m f h k =
     (met_one q m.learners (lesser_of m.voters_outgoing (lesser_of m.voters f))
     (met_one q m.voters_outgoing (lesser_of m.voters f)
     (met_one q m.voters f h (λ y e. k y (or_first (v y) (o y || (l y || n y)) e)))
-    (λ y e. k y (or_true (v y) (o y || (l y || n y)) (or_first (o y) (l y || n y) e))))
-    (λ y e. k y (or_true (v y) (o y || (l y || n y)) (or_true (o y) (l y || n y) (or_first (l y) (n y) e)))))
-    (λ y e. k y (or_true (v y) (o y || (l y || n y)) (or_true (o y) (l y || n y) (or_true (l y) (n y) e))))
+    (λ y e. k y (or-true (v y) (o y || (l y || n y)) (or_first (o y) (l y || n y) e))))
+    (λ y e. k y (or-true (v y) (o y || (l y || n y)) (or-true (o y) (l y || n y) (or_first (l y) (n y) e)))))
+    (λ y e. k y (or-true (v y) (o y || (l y || n y)) (or-true (o y) (l y || n y) (or-true (l y) (n y) e))))
   where
     v : ℕ → Bool
     v y = first_is y m.voters
@@ -159,7 +159,7 @@ pub next-first : (a b : ConfState) → (next_of a b).some ≡ true → any_of (f
 unfolding Met next_of
 next-first a b =
     met_all q b (least_of a nothing) (met_all q a nothing (λ e. absurd (false≢true e)) (λ y e. or_first (any_of (firsts_of a y)) (any_of (firsts_of b y)) e))
-    (λ y e. or_true (any_of (firsts_of a y)) (any_of (firsts_of b y)) e)
+    (λ y e. or-true (any_of (firsts_of a y)) (any_of (firsts_of b y)) e)
   where
     q : ℕ → Bool
     q y = any_of (firsts_of a y) || any_of (firsts_of b y)

@@ -6,7 +6,7 @@ use mathlib.Core.List.{List, [], ◌∷◌, ◌++◌}
 use native.Mathlib.Omega.{arith}
 use borrow.Author.Tests.{eqb-true}
 use lib.Dec.{eqb}
-use lib.ListN.{length, length_append}
+use lib.ListN.{length, length-append}
 use Rattle.rules.specs.Ids.{memb, ascending, insert_all}
 use Rattle.rules.specs.State.{ConfState}
 use Rattle.rules.proofs.Sets.{or_left, or_right, and_left, and_right, memb-all, ascending-all, ascending_ext}
@@ -185,7 +185,7 @@ equal-is-silent a b e = rw (no_line a b (ids_of_both a b) stands, flags) (same_f
 
 pub line-some : (x : ℕ) (s t : Standing) → 0 < length (line x s t)
 unfolding line
-line-some x s t = omega (arith, length_append (decimal x) (ascii " " ++ (standing_text s ++ (ascii " -> " ++ (standing_text t ++ ascii "\n")))))
+line-some x s t = omega (arith, length-append (decimal x) (ascii " " ++ (standing_text s ++ (ascii " -> " ++ (standing_text t ++ ascii "\n")))))
 
 none_left : (xs ys : List ℕ) → xs ++ ys ≡ [] → xs ≡ []
 none_left [] ys e = refl

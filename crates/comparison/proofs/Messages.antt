@@ -4,7 +4,7 @@ use mathlib.Core.Path.{◌≡◌, refl, ap, sym, subst, ◌∙◌}
 use mathlib.Core.Bool.{Bool, true, false, ◌||◌, not, cond}
 use mathlib.Core.List.{List, ◌++◌}
 use native.Mathlib.Omega.{arith}
-use borrow.Author.Tests.{leb-true, leb-false, lt-ltb, le-ltb, le_leb, eq-eqb, ne_eqb}
+use borrow.Author.Tests.{leb-true, leb-false, lt-ltb, le-ltb, le-leb, eq-eqb, ne_eqb}
 use lib.Dec.{eqb, ltb, leb}
 use lib.ListN.{length, drop}
 use Rattle.rules.specs.State.{ConfState}
@@ -117,18 +117,18 @@ module _ (a b : List ℕ) (f : Ascending a) (g : Ascending b) (room : ℕ) where
   size = lines-size (message_in a) (message_in b) f.lists.few g.lists.few
 
   pub room_most : 20761 ≤ room → true ≡ leb (length (lines (message_in a) (message_in b))) room
-  room_most h = sym (le_leb (length (lines (message_in a) (message_in b))) room (omega (arith, size)))
+  room_most h = sym (le-leb (length (lines (message_in a) (message_in b))) room (omega (arith, size)))
 
   pub room-counted : {none new : List ℕ} {n : ℕ} → Put none 0 (lines (message_in a) (message_in b)) new n → leb n room ≡ leb (length (lines (message_in a) (message_in b))) room
   room-counted h = ap (λ (k : ℕ). leb k room) (put_count h (omega (arith, size)))
 
-not_true : (b : Bool) → not b ≡ true → b ≡ false
-not_true true e = sym e
-not_true false e = refl
+not-true : (b : Bool) → not b ≡ true → b ≡ false
+not-true true e = sym e
+not-true false e = refl
 
-not_false : (b : Bool) → not b ≡ false → b ≡ true
-not_false true e = refl
-not_false false e = sym e
+not-false : (b : Bool) → not b ≡ false → b ≡ true
+not-false true e = refl
+not-false false e = sym e
 
 -- ** Two slices: a message that is refused; lines that do not fit; lines that fit
 
@@ -148,7 +148,7 @@ module _ {l m x y : List ℕ} {n : ℕ} (r : BothRead true l m n x y) where
 
     module _ (h : not fits ≡ true) where
       longer : length old < length (lines_read l m)
-      longer = leb-false (length (lines_read l m)) (length old) (sym fit ∙ not_true fits h)
+      longer = leb-false (length (lines_read l m)) (length old) (sym fit ∙ not-true fits h)
 
       pub answer_none : 4294967396 ≡ compare_answer l m (length old)
       unfolding compare_answer
@@ -160,7 +160,7 @@ module _ {l m x y : List ℕ} {n : ℕ} (r : BothRead true l m n x y) where
 
     module _ (h : not fits ≡ false) (room : length old ≤ last) {out : List ℕ} {p : ℕ} (g : Put old 0 (lines (message_in x) (message_in y)) out p) where
       within : length (lines_read l m) ≤ length old
-      within = leb-true (length (lines_read l m)) (length old) (sym fit ∙ not_false fits h)
+      within = leb-true (length (lines_read l m)) (length old) (sym fit ∙ not-false fits h)
 
       whole : (out ≡ lines_read l m ++ drop (length (lines_read l m)) old) × (p ≡ length (lines_read l m))
       whole = put_whole room (rw (lines_same r z) at g) within

@@ -4,7 +4,7 @@ use mathlib.Core.Path.{◌≡◌, refl, ap, sym, subst, ◌∙◌}
 use mathlib.Core.Bool.{Bool, true, false, ◌&&◌, cond, false≢true}
 use mathlib.Core.List.{List, [], ◌∷◌, ◌++◌}
 use native.Mathlib.Omega.{arith}
-use borrow.Author.Tests.{le_leb, lt-leb}
+use borrow.Author.Tests.{le-leb, lt-leb}
 use lib.Dec.{eqb, leb}
 use lib.ListN.{length, take, drop, get_or, length-drop}
 use lib.Seq.{take-take, get_or-drop, drop-drop}
@@ -56,7 +56,7 @@ module _ (ws : List ℕ) (k : ℕ) (h : k + 65 ≤ length ws) (f : length (list_
         met = ap (λ (l : List ℕ). lesser_of l found) (list_here e)
 
         pub lesser_kept : found.some ≡ true → found.id ≤ get_or ws (k + at) 0 → found ≡ lesser_of (drop at (list_in ws k)) found
-        lesser_kept s i = sym (met ∙ rw (s, le_leb found.id (get_or ws (k + at) 0) i))
+        lesser_kept s i = sym (met ∙ rw (s, le-leb found.id (get_or ws (k + at) 0) i))
 
         pub lesser_less : found.some ≡ true → get_or ws (k + at) 0 < found.id → ◌≡◌ {A = Found} (record { some = true; id = get_or ws (k + at) 0 }) (lesser_of (drop at (list_in ws k)) found)
         lesser_less s i = sym (met ∙ rw (s, lt-leb found.id (get_or ws (k + at) 0) i))

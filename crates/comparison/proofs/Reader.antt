@@ -6,7 +6,7 @@ use mathlib.Core.List.{List, [], ◌∷◌, ◌++◌, append_assoc}
 use native.Mathlib.Omega.{arith}
 use borrow.Author.Tests.{ne_eqb}
 use lib.Dec.{eqb, ltb}
-use lib.ListN.{length, length_append}
+use lib.ListN.{length, length-append}
 use Rattle.rules.specs.Ids.{insert_id, insert_all}
 use Rattle.rules.specs.State.{ConfState}
 use Rattle.rules.specs.Message.{Below, Below64}
@@ -108,7 +108,7 @@ module _ (a b : ConfState) (p q : Bool) where
           → read_lines k ((cond t [] (line x (standing a x) (standing b x)) ++ each (line_of a b) xs) ++ flag_line p q)
           ≡ record { notes = cond t (notes_of a b xs) (record { id = x; now = standing b x } ∷ notes_of a b xs); flips = not (beq p q) }
       by true k h r = r k h
-      by false k h r = more k (omega (arith, ap length e, length_append l (left xs), h))
+      by false k h r = more k (omega (arith, ap length e, length-append l (left xs), h))
         where
           l : List ℕ
           l = line x (standing a x) (standing b x)

@@ -7,7 +7,7 @@ use mathlib.Core.List.{List, [], ◌∷◌, ◌++◌}
 use native.Mathlib.Omega.{arith}
 use borrow.Author.Tests.{le-ltb}
 use lib.Dec.{eqb, ltb}
-use lib.ListN.{length, length_append}
+use lib.ListN.{length, length-append}
 use Rattle.rules.specs.Ids.{memb, ascending, insert_id, insert_all}
 use Rattle.rules.specs.State.{ConfState}
 use Rattle.rules.specs.Message.{Few64, Below, Below64, encoded, read, message_read}
@@ -35,12 +35,12 @@ bare (w ∷ ws) = false
 each_total : (ws : List (List ℕ)) → length (each (λ (v : List ℕ). ascii "+" ++ v) ws) ≤ total ws
 unfolding each total
 each_total [] = omega arith
-each_total (w ∷ ws) = omega (arith, length_append w (each (λ (v : List ℕ). ascii "+" ++ v) ws), each_total ws)
+each_total (w ∷ ws) = omega (arith, length-append w (each (λ (v : List ℕ). ascii "+" ++ v) ws), each_total ws)
 
 joined-size : (ws : List (List ℕ)) → length (joined ws) + 30 ≤ total ws + 34 * one (bare ws)
 unfolding total
 joined-size [] = omega arith
-joined-size (w ∷ ws) = omega (arith, length_append w (each (λ (v : List ℕ). ascii "+" ++ v) ws), each_total ws)
+joined-size (w ∷ ws) = omega (arith, length-append w (each (λ (v : List ℕ). ascii "+" ++ v) ws), each_total ws)
 
 -- what the sets of a standing weigh
 abbrev weight : Standing → ℕ
@@ -77,7 +77,7 @@ line-size x s t =
   where
     go : (b : Bool) → one (bare (names s)) + one (bare (names t)) ≤ 1 + one b → length (cond b [] (line x s t)) ≤ weight s + weight t
     go true h = omega arith
-    go false h = simp length_append (omega (arith, decimal-length x, joined-size (names s), joined-size (names t), total_names s, total_names t))
+    go false h = simp length-append (omega (arith, decimal-length x, joined-size (names s), joined-size (names t), total_names s, total_names t))
 
 -- the flag's line
 flag-size : (a b : Bool) → length (flag_line a b) ≤ 25
@@ -91,7 +91,7 @@ flag-size true true = omega arith
 
 pub ids-few : (a b : ConfState) → Few64 a → Few64 b → length (ids_of_both a b) ≤ 512
 unfolding ids_of_both
-ids-few a b f g = omega (arith, simp length_append at (length-all (ids_of a ++ ids_of b)))
+ids-few a b f g = omega (arith, simp length-append at (length-all (ids_of a ++ ids_of b)))
 
 -- what the places of ids in the four lists weigh
 abbrev places : ConfState → List ℕ → ℕ
@@ -100,7 +100,7 @@ places m xs = 36 * count m.voters xs + 45 * count m.voters_outgoing xs + 38 * co
 each-size : (a b : ConfState) (xs : List ℕ) → length (each (line_of a b) xs) ≤ places a xs + places b xs
 unfolding each line_if standing count
 each-size a b [] = omega arith
-each-size a b (x ∷ xs) = omega (arith, length_append (line_of a b x) (each (line_of a b) xs), line-size x (standing a x) (standing b x), each-size a b xs)
+each-size a b (x ∷ xs) = omega (arith, length-append (line_of a b x) (each (line_of a b) xs), line-size x (standing a x) (standing b x), each-size a b xs)
 
 places-few : {m : ConfState} → Few64 m → (xs : List ℕ) → ascending xs ≡ true → places m xs ≤ 10368
 places-few {m} f xs up = omega (arith, count_le m.voters xs up, count_le m.voters_outgoing xs up, count_le m.learners xs up, count_le m.learners_next xs up)
@@ -110,13 +110,13 @@ unfolding lines ids_of_both ascending
 lines-size a b f g =
     let xs : List ℕ = ids_of_both a b in
     let up : ascending xs ≡ true = ascending-all (ids_of a ++ ids_of b) [] refl in
-    omega (arith, length_append (each (line_of a b) xs) (flag_line a.auto_leave b.auto_leave), flag-size a.auto_leave b.auto_leave, each-size a b xs, places-few f xs up, places-few g xs up)
+    omega (arith, length-append (each (line_of a b) xs) (flag_line a.auto_leave b.auto_leave), flag-size a.auto_leave b.auto_leave, each-size a b xs, places-few f xs up, places-few g xs up)
 
 -- ** Two files
 
 refused-size : (n : ℕ) → length (refused_text n) ≤ 29
 unfolding refused_text
-refused-size n = simp length_append (omega (arith, decimal-length n))
+refused-size n = simp length-append (omega (arith, decimal-length n))
 
 pub comparison-size : (readable : Bool) (l m : List ℕ) → length (comparison readable l m) ≤ 20761
 unfolding comparison

@@ -4,12 +4,12 @@ use mathlib.Core.Path.{◌≡◌, refl, ap, sym, ◌∙◌}
 use mathlib.Core.Bool.{Bool, true, false, ◌||◌, cond, true≢false, false≢true}
 use mathlib.Core.List.{List, [], ◌∷◌, ◌++◌}
 use native.Mathlib.Omega.{arith}
-use borrow.Author.Tests.{leb-true, ltb_true, ltb-false, lt-ltb, eqb-true, eqb-false, ne_eqb}
+use borrow.Author.Tests.{leb-true, ltb-true, ltb-false, lt-ltb, eqb-true, eqb-false, ne_eqb}
 use lib.Dec.{eqb, ltb}
 use lib.ListN.{length}
 use Rattle.rules.specs.Ids.{memb, above, ascending, insert_all}
 use Rattle.rules.specs.State.{ConfState}
-use Rattle.rules.proofs.Sets.{or_true, above_none, memb-before, memb_head, rising_tail, ascending_ext}
+use Rattle.rules.proofs.Sets.{or-true, above_none, memb-before, memb_head, rising_tail, ascending_ext}
 use Rattle.text.specs.Text.{each}
 use Rattle.idset.specs.Places.{first_is}
 use Rattle.comparison.specs.Compare.{standing, line_if, line_of, ids_of, ids_of_both, id_lines, lines}
@@ -180,7 +180,7 @@ memb_both a b y = every_id a b y ∙ rw (memb-ids a y, memb-ids b y)
 each_same : (f g : ℕ → List ℕ) (xs : List ℕ) → ((y : ℕ) → memb y xs ≡ true → f y ≡ g y) → each f xs ≡ each g xs
 unfolding each memb
 each_same f g [] h = refl
-each_same f g (x ∷ xs) h = rw (h x (memb_head x xs), each_same f g xs (λ y e. h y (or_true (eqb x y) (memb y xs) e)))
+each_same f g (x ∷ xs) h = rw (h x (memb_head x xs), each_same f g xs (λ y e. h y (or-true (eqb x y) (memb y xs) e)))
 
 above-each : (x : ℕ) (ys : List ℕ) → ascending ys ≡ true → ((y : ℕ) → memb y ys ≡ true → x < y) → above x ys ≡ true
 unfolding above ascending
@@ -200,7 +200,7 @@ module _ (a b : ConfState) (s : Sorted a) (t : Sorted b) (x : ℕ) (h : NotAfter
       none le = memb_both (past_id x a) (past_id x b) y ∙ rw (stand_past x a s h y le, stand_past x b t k y le)
 
       by : (u : Bool) → ltb x y ≡ u → x < y
-      by true p = ltb_true x y p
+      by true p = ltb-true x y p
       by false p = absurd (true≢false (sym e ∙ none (ltb-false x y p)))
 
   ids-same : (y : ℕ) → memb y (ids_of_both a b) ≡ eqb x y || memb y rest
@@ -210,7 +210,7 @@ module _ (a b : ConfState) (s : Sorted a) (t : Sorted b) (x : ℕ) (h : NotAfter
       by : (u v : Bool) → ltb x y ≡ u → eqb x y ≡ v
           → any_of (standing a y) || any_of (standing b y) ≡ v || (any_of (standing (past_id x a) y) || any_of (standing (past_id x b) y))
       by u true p q = rw (← eqb-true x y q, ← firsts_stand x a s h, ← firsts_stand x b t k) one
-      by true false p q = rw (stand_more x y a (ltb_true x y p), stand_more x y b (ltb_true x y p))
+      by true false p q = rw (stand_more x y a (ltb-true x y p), stand_more x y b (ltb-true x y p))
       by false false p q =
           let ne : x ≡ y → ⊥ = eqb-false x y q in
           let le : y ≤ x = ltb-false x y p in

@@ -1,5 +1,7 @@
 // Where two controllers disagree: document 02, l). Two ConfState messages in bytes, each list taken as a set: a line for every id whose standing differs,
 // and one for the flag. The text is put into a lent slice, as far as it goes there, and counted to its end.
+#![tactic(auto)]
+
 ghost use Rattle.std.specs.Prelude.{◌≡◌, leb, length};
 ghost use Rattle.text.specs.Put.{Put};
 ghost use Rattle.confstate.specs.Words.{message_in};

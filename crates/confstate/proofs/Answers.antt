@@ -4,8 +4,8 @@ use mathlib.Core.Path.{◌≡◌, refl, ap, sym, ◌∙◌}
 use mathlib.Core.List.{List, ◌++◌}
 use native.Mathlib.Omega.{arith}
 use borrow.Author.Tests.{lt-ltb, le-ltb}
-use lib.ListN.{length, take, drop, replicate, length_append, length-replicate}
-use lib.Seq.{take_at, drop_at, length_take_le}
+use lib.ListN.{length, take, drop, replicate, length-append, length-replicate}
+use lib.Seq.{take_at, drop_at, length-take-le}
 use Rattle.rules.specs.Apply.{no_conf_state}
 use Rattle.rules.specs.Message.{Read, refused, taken, read, number_read, message_read}
 use Rattle.rules.proofs.Refusals.{read_named}
@@ -31,10 +31,10 @@ module _ (l old : List ℕ) (h : 261 ≤ length old) where
   -- the words cleared, whatever 261 they are
   module _ {c : List ℕ} (e : c ≡ replicate (length (take 261 old)) 0) where
     zeros : c ≡ conf_state_words no_conf_state
-    zeros = e ∙ (ap (λ (n : ℕ). replicate n 0) (length_take_le 261 old h) ∙ cleared)
+    zeros = e ∙ (ap (λ (n : ℕ). replicate n 0) (length-take-le 261 old h) ∙ cleared)
 
     c_length : length c ≡ 261
-    c_length = ap length e ∙ (length-replicate (length (take 261 old)) 0 ∙ length_take_le 261 old h)
+    c_length = ap length e ∙ (length-replicate (length (take 261 old)) 0 ∙ length-take-le 261 old h)
 
     pub front_cleared : take 261 (c ++ drop 261 old) ≡ conf_state_words no_conf_state
     front_cleared = take_at c (drop 261 old) 261 c_length ∙ zeros
@@ -63,10 +63,10 @@ module _ (l old : List ℕ) (h : 261 ≤ length old) where
       refusing {d} z f = by (read l) refl w
         where
           long : 261 ≤ length (new ++ drop 261 (c ++ drop 261 old))
-          long = omega (arith, length_append new (drop 261 (c ++ drop 261 old)), n_length)
+          long = omega (arith, length-append new (drop 261 (c ++ drop 261 old)), n_length)
 
           empty : d ≡ conf_state_words no_conf_state
-          empty = f ∙ (ap (λ (n : ℕ). replicate n 0) (length_take_le 261 (new ++ drop 261 (c ++ drop 261 old)) long) ∙ cleared)
+          empty = f ∙ (ap (λ (n : ℕ). replicate n 0) (length-take-le 261 (new ++ drop 261 (c ++ drop 261 old)) long) ∙ cleared)
 
           rest : drop 261 (new ++ drop 261 (c ++ drop 261 old)) ≡ drop 261 old
           rest = drop_at new (drop 261 (c ++ drop 261 old)) 261 n_length ∙ behind

@@ -4,7 +4,7 @@ use mathlib.Core.Path.{◌≡◌, refl, ap, sym, ◌∙◌}
 use mathlib.Core.List.{List, [], ◌∷◌, ◌++◌, append-nil}
 use native.Mathlib.Numerals.{add-one}
 use native.Mathlib.Omega.{arith}
-use lib.ListN.{length, drop, set, replicate, length-set, length-replicate, replicate-append-replicate, drop_of_length_le}
+use lib.ListN.{length, drop, set, replicate, length-set, length-replicate, replicate-append-replicate, drop_of_length-le}
 use lib.Seq.{append_snoc, drop-cons, set_at}
 use Rattle.rules.specs.Apply.{no_conf_state}
 use Rattle.confstate.specs.Words.{list_words, conf_state_words}
@@ -38,7 +38,7 @@ module _ {l ws : List ℕ} {i : ℕ} (k : Clearing l ws i) where
   clear-end h =
       let e : i ≡ length l = omega (arith, k.within, k.long) in
       let g : length l ≤ i = omega (arith, k.long) in
-      k.holds ∙ (ap (λ (x : List ℕ). replicate i 0 ++ x) (drop_of_length_le l g) ∙ (append-nil (replicate i 0) ∙ ap (λ (n : ℕ). replicate n 0) e))
+      k.holds ∙ (ap (λ (x : List ℕ). replicate i 0 ++ x) (drop_of_length-le l g) ∙ (append-nil (replicate i 0) ∙ ap (λ (n : ℕ). replicate n 0) e))
 
 -- 261 zeros are four empty lists and a false flag
 pub cleared : replicate 261 0 ≡ conf_state_words no_conf_state

@@ -4,9 +4,9 @@ use mathlib.Core.Path.{◌≡◌, refl, ap, sym, subst, ◌∙◌}
 use mathlib.Core.Bool.{Bool, true, false, not, cond}
 use mathlib.Core.List.{List, [], ◌∷◌, ◌++◌}
 use native.Mathlib.Omega.{arith}
-use borrow.Author.Tests.{lt-ltb, le-ltb, le_leb, lt-leb, ltb_true, ltb-false, ne_eqb, not_true, not_false}
+use borrow.Author.Tests.{lt-ltb, le-ltb, le-leb, lt-leb, ltb-true, ltb-false, ne_eqb, not-true, not-false}
 use lib.Dec.{eqb, ltb}
-use lib.ListN.{length, take, drop, get_or, set, length_append, length-drop}
+use lib.ListN.{length, take, drop, get_or, set, length-append, length-drop}
 use lib.Seq.{drop-drop}
 use Rattle.rules.specs.State.{ConfState}
 use Rattle.rules.specs.Wire.{Found, bad, found, Payload, varint, bytes, single, length_in, numbered, varint_in}
@@ -25,7 +25,7 @@ pub beyond : (n : ℕ) → (n ≡ 0 → ⊥) → ltb 536870911 n ≡ not (number
 beyond n h = by (ltb n (2 ^ 29)) refl
   where
     by : (t : Bool) → ltb n (2 ^ 29) ≡ t → ltb 536870911 n ≡ not (numbered n)
-    by true t = rw (ne_eqb _ _ h, t, le-ltb 536870911 n (omega (arith, ltb_true n (2 ^ 29) t)))
+    by true t = rw (ne_eqb _ _ h, t, le-ltb 536870911 n (omega (arith, ltb-true n (2 ^ 29) t)))
     by false t = rw (ne_eqb _ _ h, t, lt-ltb 536870911 n (omega (arith, ltb-false n (2 ^ 29) t)))
 
 pub numbered-some : (f : ℕ) → numbered f ≡ true → 0 < f
@@ -39,7 +39,7 @@ module _ {ws : List ℕ} (k : Listing ws) (x : ℕ) where
   unfolding Grows
   single-full h =
       let e : grown (list_in ws 0) (all (x ∷ [])) ≡ faulty 30
-      = rw (lt-leb (length (list_in ws 0 ++ (x ∷ []))) 64 (omega (arith, length_append (list_in ws 0) (x ∷ []), listed-count k))) in
+      = rw (lt-leb (length (list_in ws 0 ++ (x ∷ []))) 64 (omega (arith, length-append (list_in ws 0) (x ∷ []), listed-count k))) in
       subst (λ (r : Numbers). Grows r 30 ws) (sym e) refl
 
   pub single_more : get_or ws 64 0 < 64 → Grows (grown (list_in ws 0) (all (x ∷ []))) 0 (set (set ws (get_or ws 64 0) x) 64 (get_or ws 64 0 + 1))
@@ -47,8 +47,8 @@ module _ {ws : List ℕ} (k : Listing ws) (x : ℕ) where
   single_more h =
       let n : get_or ws 64 0 ≡ length (list_in ws 0) = listed-count k in
       let few : length (list_in ws 0) < 64 = omega arith in
-      let long : length (list_in ws 0 ++ (x ∷ [])) ≡ get_or ws 64 0 + 1 = omega (arith, length_append (list_in ws 0) (x ∷ [])) in
-      let e : grown (list_in ws 0) (all (x ∷ [])) ≡ all (list_in ws 0 ++ (x ∷ [])) = rw (le_leb (length (list_in ws 0 ++ (x ∷ []))) 64 (omega arith)) in
+      let long : length (list_in ws 0 ++ (x ∷ [])) ≡ get_or ws 64 0 + 1 = omega (arith, length-append (list_in ws 0) (x ∷ [])) in
+      let e : grown (list_in ws 0) (all (x ∷ [])) ≡ all (list_in ws 0 ++ (x ∷ [])) = rw (le-leb (length (list_in ws 0 ++ (x ∷ []))) 64 (omega arith)) in
       let a : set ws (get_or ws 64 0) x ≡ counted (list_in ws 0 ++ (x ∷ [])) (length (list_in ws 0))
       = ap (λ (j : ℕ). set ws j x) n ∙ (ap (λ (l : List ℕ). set l (length (list_in ws 0)) x) k.words ∙ id-set (list_in ws 0) (length (list_in ws 0)) x few) in
       let b : set (set ws (get_or ws 64 0) x) 64 (get_or ws 64 0 + 1) ≡ list_words (list_in ws 0 ++ (x ∷ []))
@@ -145,10 +145,10 @@ module _ (q f : ℕ) (w : ConfState) (t : Taken) (ws : List ℕ) {x : Found Payl
 
 -- what `misnumbered` says
 misnumbered_yes : (f : ℕ) {b : Bool} → b ≡ not (numbered f) → b ≡ true → numbered f ≡ false
-misnumbered_yes f e h = not_true (numbered f) (sym e ∙ h)
+misnumbered_yes f e h = not-true (numbered f) (sym e ∙ h)
 
 pub misnumbered_no : (f : ℕ) {b : Bool} → b ≡ not (numbered f) → b ≡ false → numbered f ≡ true
-misnumbered_no f e h = not_false (numbered f) (sym e ∙ h)
+misnumbered_no f e h = not-false (numbered f) (sym e ∙ h)
 
 pub misnumbered_some : (f : ℕ) {b : Bool} → b ≡ not (numbered f) → b ≡ false → 0 < f
 misnumbered_some f e h = numbered-some f (misnumbered_no f e h)
@@ -206,7 +206,7 @@ module _ (l : List ℕ) (q f : ℕ) (w : ConfState) {v : Varint} (e : v ≡ vari
       at-bytes =
           let b : v.value ≤ length (drop q l) - n = omega (arith, length-drop q l, ends) in
           let d : drop n (drop q l) ≡ drop v.next l = drop-drop n q l ∙ ap (λ (j : ℕ). drop j l) (sym ends) in
-          at_length ∙ rw (le_leb v.value (length (drop q l) - n) b, d)
+          at_length ∙ rw (le-leb v.value (length (drop q l) - n) b, d)
 
       pub length_29 : {b : Bool} (t : Taken) (ws : List ℕ) → b ≡ not (numbered f) → b ≡ true → t ≡ record { fault = 29; next = 0 }
           → Takes (held_at q f w (length_in (drop q l) (varint_in (drop q l)))) t ws
@@ -237,12 +237,12 @@ module _ (room q f n : ℕ) where
 
   pub fixed_29 : {t : Taken} {b : Bool} → n ≤ room → b ≡ not (numbered f) → b ≡ true → t ≡ record { fault = 29; next = 0 } → t ≡ fixed_at room q f n
   unfolding fixed_at
-  fixed_29 h a b e = e ∙ sym (rw (le_leb n room h, misnumbered_yes f a b))
+  fixed_29 h a b e = e ∙ sym (rw (le-leb n room h, misnumbered_yes f a b))
 
   pub fixed_known : {t : Taken} {b : Bool} → n ≤ room → b ≡ not (numbered f) → b ≡ false → f < 6 → t ≡ record { fault = 29; next = 0 } → t ≡ fixed_at room q f n
   unfolding fixed_at
-  fixed_known h a b k e = e ∙ sym (rw (le_leb n room h, misnumbered_no f a b, le-ltb 5 f (omega arith)))
+  fixed_known h a b k e = e ∙ sym (rw (le-leb n room h, misnumbered_no f a b, le-ltb 5 f (omega arith)))
 
   pub fixed-go : {b : Bool} → n ≤ room → b ≡ not (numbered f) → b ≡ false → 6 ≤ f → record { fault = 0; next = q + n } ≡ fixed_at room q f n
   unfolding fixed_at
-  fixed-go h a b k = sym (rw (le_leb n room h, misnumbered_no f a b, lt-ltb 5 f (omega arith)))
+  fixed-go h a b k = sym (rw (le-leb n room h, misnumbered_no f a b, lt-ltb 5 f (omega arith)))

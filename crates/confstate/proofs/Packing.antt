@@ -4,9 +4,9 @@ use mathlib.Core.Path.{◌≡◌, refl, ap, sym, subst, ◌∙◌}
 use mathlib.Core.Bool.{Bool, true, false, cond}
 use mathlib.Core.List.{List, [], ◌∷◌, ◌++◌, append-nil}
 use native.Mathlib.Omega.{arith}
-use borrow.Author.Tests.{le_leb, lt-leb, ltb_true, ltb-false}
+use borrow.Author.Tests.{le-leb, lt-leb, ltb-true, ltb-false}
 use lib.Dec.{leb, ltb}
-use lib.ListN.{length, take, drop, get_or, set, length-set, length-drop, length_append, drop_of_length_le}
+use lib.ListN.{length, take, drop, get_or, set, length-set, length-drop, length-append, drop_of_length-le}
 use lib.Seq.{append_snoc, take_all, take-append-le, drop-drop}
 use Rattle.rules.specs.Wire.{Front, cut, num, front, fits, Found, bad, found, judged, varint_in}
 use Rattle.rules.specs.Message.{Numbers, faulty, all, lower, before, packed, grown}
@@ -99,9 +99,9 @@ stored zs c x = by (ltb (length zs) 64) refl
   where
     by : (t : Bool) → ltb (length zs) 64 ≡ t → cond t (set (counted (take 64 zs) c) (length zs) x) (counted (take 64 zs) c) ≡ counted (take 64 (zs ++ (x ∷ []))) c
     by true t =
-        let h : length zs < 64 = ltb_true _ _ t in
+        let h : length zs < 64 = ltb-true _ _ t in
         ap (λ (l : List ℕ). set (counted l c) (length zs) x) (take_all 64 zs (omega arith))
-        ∙ (id-set zs c x h ∙ ap (λ (l : List ℕ). counted l c) (sym (take_all 64 (zs ++ (x ∷ [])) (omega (arith, length_append zs (x ∷ []))))))
+        ∙ (id-set zs c x h ∙ ap (λ (l : List ℕ). counted l c) (sym (take_all 64 (zs ++ (x ∷ [])) (omega (arith, length-append zs (x ∷ []))))))
     by false t = ap (λ (l : List ℕ). counted l c) (sym (take-append-le 64 zs (x ∷ []) (ltb-false _ _ t)))
 
 -- the loop has come to p: `old` was there before, c is the count that stands in the words meanwhile
@@ -143,7 +143,7 @@ module _ {l old : List ℕ} {c : ℕ} {ws : List ℕ} {n p : ℕ} {over : Bool} 
         long = ap length g ∙ (kept (ltb n 64) x ∙ k.long);
         seen = k.seen ++ (x ∷ []);
         spot = omega (arith, (found_within (drop p l) reads).0, (found_within (drop p l) reads).1, length-drop p l);
-        count = omega (arith, k.count, length_append k.seen (x ∷ []));
+        count = omega (arith, k.count, length-append k.seen (x ∷ []));
         bound = omega (arith, k.bound, (found_within (drop p l) reads).0);
         holds = g ∙ (rw (k.holds, k.count) (stored k.seen c x));
         same = ap (λ (y : List ℕ). result over (k.seen ++ (x ∷ [])) (packed y)) (sym d)
@@ -210,7 +210,7 @@ module _ {l old : List ℕ} {c : ℕ} {ws : List ℕ} {n p : ℕ} {over : Bool} 
 
   module _ (h : length l ≤ p) where
     ended : result over k.seen (all []) ≡ grown old (packed l)
-    ended = here (ap packed (drop_of_length_le l h) ∙ packed_none)
+    ended = here (ap packed (drop_of_length-le l h) ∙ packed_none)
 
     pub packing_29 : over ≡ true → Grows (grown old (packed l)) 29 ws
     unfolding Grows
@@ -231,7 +231,7 @@ module _ {l old : List ℕ} {c : ℕ} {ws : List ℕ} {n p : ℕ} {over : Bool} 
     unfolding Grows
     packing_all e g =
         let few : length k.seen ≤ 64 = omega (arith, k.count) in
-        let b : grown old (packed l) ≡ all k.seen = whole e ∙ rw (le_leb (length k.seen) 64 few) in
+        let b : grown old (packed l) ≡ all k.seen = whole e ∙ rw (le-leb (length k.seen) 64 few) in
         let w : set ws 64 n ≡ list_words k.seen
         = ap (λ (x : List ℕ). set x 64 n) (k.holds ∙ ap (λ (x : List ℕ). counted x c) (take_all 64 k.seen few)) ∙ (count_set k.seen c n few ∙ told k.seen k.count) in
         subst (λ (r : Numbers). Grows r 0 (set ws 64 n)) (sym b) (refl, w)

@@ -5,9 +5,9 @@ use mathlib.Core.Bool.{Bool, true, false, ◌&&◌, ◌||◌, cond}
 use mathlib.Core.List.{List, [], ◌∷◌, ◌++◌}
 use native.Mathlib.Numerals.{add-one}
 use native.Mathlib.Omega.{arith}
-use borrow.Author.Tests.{ltb-false, leb-true, eqb-true, eqb-false, lt-ltb, le-ltb, le_leb, lt-leb, eq-eqb, ne_eqb}
+use borrow.Author.Tests.{ltb-false, leb-true, eqb-true, eqb-false, lt-ltb, le-ltb, le-leb, lt-leb, eq-eqb, ne_eqb}
 use lib.Dec.{eqb, leb, ltb}
-use lib.ListN.{length, take, drop, get_or, length_append, length-take, length-drop, drop_of_length_le}
+use lib.ListN.{length, take, drop, get_or, length-append, length-take, length-drop, drop_of_length-le}
 use lib.Seq.{drop-cons}
 use Rattle.rules.specs.State.{ConfState}
 use Rattle.rules.specs.Wire.{groups, varint_of}
@@ -27,7 +27,7 @@ packed-at xs i h = rw (drop-cons xs i 0 h, add-one)
 
 pub packed-past : (xs : List ℕ) (i : ℕ) → length xs ≤ i → packed_of (drop i xs) ≡ []
 unfolding packed_of
-packed-past xs i h = rw (drop_of_length_le xs h)
+packed-past xs i h = rw (drop_of_length-le xs h)
 
 -- the loop that counts their bytes has come to place i
 pub record Counting (xs : List ℕ) (n i : ℕ) : Type 0 where
@@ -44,7 +44,7 @@ module _ {xs : List ℕ} {n i : ℕ} (s : Counting xs n i) where
   pub counting_next : i < length xs → {k : ℕ} → k ≡ length (varint_of (get_or xs i 0)) → Counting xs (n + k) (i + 1)
   counting_next h e = record {
     within = omega arith;
-    count = omega (arith, s.count, ap length (packed-at xs i h), length_append (varint_of (get_or xs i 0)) (packed_of (drop (i + 1) xs)));
+    count = omega (arith, s.count, ap length (packed-at xs i h), length-append (varint_of (get_or xs i 0)) (packed_of (drop (i + 1) xs)));
   }
 
   pub counting_end : length xs ≤ i → n ≡ length (packed_of xs)
@@ -56,7 +56,7 @@ module _ {xs : List ℕ} {n i : ℕ} (s : Counting xs n i) where
 pub list_none : (f : ℕ) (xs : List ℕ) → length (packed_of xs) ≡ 0 → list_field f xs ≡ []
 unfolding list_field packed_of
 list_none f [] e = refl
-list_none f (x ∷ xs) e = absurd (omega (arith, length_append (varint_of x) (packed_of xs), varint-some x))
+list_none f (x ∷ xs) e = absurd (omega (arith, length-append (varint_of x) (packed_of xs), varint-some x))
 
 pub list_some : (f : ℕ) (xs : List ℕ) → (length (packed_of xs) ≡ 0 → ⊥) → f < 16
     → list_field f xs ≡ (8 * f + 2) ∷ (varint_of (length (packed_of xs)) ++ packed_of xs)
@@ -88,7 +88,7 @@ field-length f xs k = by (eqb (length (packed_of xs)) 0) refl
         → cond t 0 (1 + length (varint_of (length (packed_of xs))) + length (packed_of xs)) ≡ length (list_field f xs)
     by true e = sym (ap length (list_none f xs (eqb-true _ _ e)))
     by false e =
-        omega (arith, ap length (list_some f xs (eqb-false _ _ e) k), length_append (varint_of (length (packed_of xs))) (packed_of xs))
+        omega (arith, ap length (list_some f xs (eqb-false _ _ e) k), length-append (varint_of (length (packed_of xs))) (packed_of xs))
 
 -- ** The flag's field
 
@@ -141,7 +141,7 @@ module _ {ws : List ℕ} (w : Writable ws) where
 
 pub is-conf-state : (ws : List ℕ) → length ws ≡ 261 → at ws 260 ≤ 1 → is_conf_state ws ≡ true
 unfolding is_conf_state
-is-conf-state ws h k = rw (eq-eqb _ _ h, le_leb _ _ k)
+is-conf-state ws h k = rw (eq-eqb _ _ h, le-leb _ _ k)
 
 pub refused-words : (ws : List ℕ) → (length ws ≡ 261 → ⊥) → 1 ≡ refusal_of ws
 unfolding refusal_of is_conf_state
@@ -239,10 +239,10 @@ module _ {ws : List ℕ} (w : Writable ws) where
     field-length 3 (list_in ws 130) (omega arith),
     field-length 4 (list_in ws 195) (omega arith),
     flag-length (at ws 260) w.flag,
-    length_append (list_field 1 (list_in ws 0)) (list_field 2 (list_in ws 65) ++ (list_field 3 (list_in ws 130) ++ (list_field 4 (list_in ws 195) ++ flag_field (eqb (at ws 260) 1)))),
-    length_append (list_field 2 (list_in ws 65)) (list_field 3 (list_in ws 130) ++ (list_field 4 (list_in ws 195) ++ flag_field (eqb (at ws 260) 1))),
-    length_append (list_field 3 (list_in ws 130)) (list_field 4 (list_in ws 195) ++ flag_field (eqb (at ws 260) 1)),
-    length_append (list_field 4 (list_in ws 195)) (flag_field (eqb (at ws 260) 1)),
+    length-append (list_field 1 (list_in ws 0)) (list_field 2 (list_in ws 65) ++ (list_field 3 (list_in ws 130) ++ (list_field 4 (list_in ws 195) ++ flag_field (eqb (at ws 260) 1)))),
+    length-append (list_field 2 (list_in ws 65)) (list_field 3 (list_in ws 130) ++ (list_field 4 (list_in ws 195) ++ flag_field (eqb (at ws 260) 1))),
+    length-append (list_field 3 (list_in ws 130)) (list_field 4 (list_in ws 195) ++ flag_field (eqb (at ws 260) 1)),
+    length-append (list_field 4 (list_in ws 195)) (flag_field (eqb (at ws 260) 1)),
   )
 
   -- as it was counted

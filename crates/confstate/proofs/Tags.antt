@@ -4,9 +4,9 @@ use mathlib.Core.Path.{◌≡◌, refl, ap, sym, subst, ◌∙◌}
 use mathlib.Core.Bool.{Bool, true, false, ◌&&◌, cond}
 use mathlib.Core.List.{List}
 use native.Mathlib.Omega.{arith}
-use borrow.Author.Tests.{ltb_true, ltb-false, eq-eqb, ne_eqb}
+use borrow.Author.Tests.{ltb-true, ltb-false, eq-eqb, ne_eqb}
 use lib.Dec.{leb, ltb}
-use lib.ListN.{length, drop, length-drop, drop_of_length_le}
+use lib.ListN.{length, drop, length-drop, drop_of_length-le}
 use lib.Seq.{drop-drop}
 use Rattle.rules.specs.State.{ConfState}
 use Rattle.rules.specs.Apply.{no_conf_state}
@@ -74,7 +74,7 @@ module _ {ws : List ℕ} (k : Holding ws) (l : List ℕ) (q f n : ℕ) (t : Take
           → Takes (held_at q f (message_in ws) (fixed_in n (drop q l))) t ws
       known true h b g z =
           held-go q f (message_in ws) t ws (here true g) b
-          (subst (λ (x : Taken). Takes (closed (q + n) (entered (record { number = f; payload = fixed }) (message_in ws))) x ws) (sym z) (unknown-taken k f (q + n) fixed (ltb_true 5 f h)))
+          (subst (λ (x : Taken). Takes (closed (q + n) (entered (record { number = f; payload = fixed }) (message_in ws))) x ws) (sym z) (unknown-taken k f (q + n) fixed (ltb-true 5 f h)))
       known false h b g z =
           held-go q f (message_in ws) t ws (here true g) b
           (subst (λ (r : Read). Takes (closed (q + n) r) t ws) (sym (entered-fixed f (message_in ws) (numbered-some f b) (ltb-false 5 f h))) (fault-of z))
@@ -185,7 +185,7 @@ module _ {l ws : List ℕ} {at : ℕ} (g : Going l ws at) where
   pub going_end : length l ≤ at → Reads (read l) 0 ws
   unfolding Reads read_row
   going_end h =
-      let a : read l ≡ taken (message_in ws) = sym g.same ∙ ap (λ (r : List ℕ). read_row (row r) (message_in ws)) (drop_of_length_le l h) ∙ ap (λ r. read_row r (message_in ws)) row-end in
+      let a : read l ≡ taken (message_in ws) = sym g.same ∙ ap (λ (r : List ℕ). read_row (row r) (message_in ws)) (drop_of_length-le l h) ∙ ap (λ r. read_row r (message_in ws)) row-end in
       subst (λ (r : Read). Reads r 0 ws) (sym a) (refl, g.holds.words)
 
   module _ (h : at < length l) (t : Taken) (new : List ℕ) (w : Takes (field_at l at (message_in ws)) t new) where

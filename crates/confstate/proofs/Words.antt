@@ -5,7 +5,7 @@ use mathlib.Core.Bool.{Bool, true, false, cond}
 use mathlib.Core.List.{List, [], ◌∷◌, ◌++◌, append_assoc}
 use native.Mathlib.Omega.{arith}
 use lib.Dec.{eqb}
-use lib.ListN.{length, take, drop, get_or, set, replicate, length_append, length-replicate}
+use lib.ListN.{length, take, drop, get_or, set, replicate, length-append, length-replicate}
 use lib.Seq.{take_at, take-take, drop_at, get_or_at, get_or-take, get_or-drop, set_at, append_snoc, take-append_seam}
 use Rattle.rules.specs.State.{ConfState}
 use Rattle.rules.specs.Message.{Few64, with_voters, with_learners, with_outgoing, with_next, with_flag}
@@ -15,7 +15,7 @@ use Rattle.confstate.specs.Steps.{Holding, Listing}
 -- ** A list in its 65 words
 
 places : (xs : List ℕ) → length xs ≤ 64 → length (xs ++ replicate (64 - length xs) 0) ≡ 64
-places xs h = length_append xs (replicate (64 - length xs) 0) ∙ (ap (λ (n : ℕ). length xs + n) (length-replicate (64 - length xs) 0) ∙ omega arith)
+places xs h = length-append xs (replicate (64 - length xs) 0) ∙ (ap (λ (n : ℕ). length xs + n) (length-replicate (64 - length xs) 0) ∙ omega arith)
 
 -- the places, then the count
 apart : (xs : List ℕ) → list_words xs ≡ (xs ++ replicate (64 - length xs) 0) ++ (length xs ∷ [])
@@ -23,7 +23,7 @@ unfolding list_words
 apart xs = sym (append_assoc xs (replicate (64 - length xs) 0) (length xs ∷ []))
 
 pub list_length : (xs : List ℕ) → length xs ≤ 64 → length (list_words xs) ≡ 65
-list_length xs h = ap length (apart xs) ∙ (length_append (xs ++ replicate (64 - length xs) 0) (length xs ∷ []) ∙ ap (λ (n : ℕ). n + 1) (places xs h))
+list_length xs h = ap length (apart xs) ∙ (length-append (xs ++ replicate (64 - length xs) 0) (length xs ∷ []) ∙ ap (λ (n : ℕ). n + 1) (places xs h))
 
 pub list_count : (xs : List ℕ) → length xs ≤ 64 → get_or (list_words xs) 64 0 ≡ length xs
 list_count xs h = ap (λ (l : List ℕ). get_or l 64 0) (apart xs) ∙ get_or_at (xs ++ replicate (64 - length xs) 0) (length xs) [] 0 64 (places xs h)
@@ -64,7 +64,7 @@ count_set xs c d h =
 pub id-set : (xs : List ℕ) (c x : ℕ) → length xs < 64 → set (counted xs c) (length xs) x ≡ counted (xs ++ (x ∷ [])) c
 id-set xs c x h =
     let a : 64 - length xs ≡ suc (63 - length xs) = omega arith in
-    let b : 64 - length (xs ++ (x ∷ [])) ≡ 63 - length xs = omega (arith, length_append xs (x ∷ [])) in
+    let b : 64 - length (xs ++ (x ∷ [])) ≡ 63 - length xs = omega (arith, length-append xs (x ∷ [])) in
     rw (a, b) (set_at xs 0 (replicate (63 - length xs) 0 ++ (c ∷ [])) x (length xs) refl ∙ sym (append_snoc xs x (replicate (63 - length xs) 0 ++ (c ∷ []))))
 
 -- ** The four lists and the flag
@@ -78,13 +78,13 @@ module _ (a b c d : List ℕ) (f : ℕ) (la : length a ≡ 65) (lb : length b �
   drop_1 = drop_at a (b ++ (c ++ (d ++ (f ∷ [])))) 65 la
 
   ab : length (a ++ b) ≡ 130
-  ab = omega (arith, length_append a b)
+  ab = omega (arith, length-append a b)
 
   abc : length (a ++ (b ++ c)) ≡ 195
-  abc = omega (arith, length_append a (b ++ c), length_append b c)
+  abc = omega (arith, length-append a (b ++ c), length-append b c)
 
   abcd : length (a ++ (b ++ (c ++ d))) ≡ 260
-  abcd = omega (arith, length_append a (b ++ (c ++ d)), length_append b (c ++ d), length_append c d)
+  abcd = omega (arith, length-append a (b ++ (c ++ d)), length-append b (c ++ d), length-append c d)
 
   by_2 : row a b c d f ≡ (a ++ b) ++ (c ++ (d ++ (f ∷ [])))
   by_2 = sym (append_assoc a b (c ++ (d ++ (f ∷ []))))
@@ -113,7 +113,7 @@ module _ (a b c d : List ℕ) (f : ℕ) (la : length a ≡ 65) (lb : length b �
       ∙ (set_at (a ++ (b ++ (c ++ d))) f [] g 260 abcd ∙ rw (append_assoc a (b ++ (c ++ d)) (g ∷ []), append_assoc b (c ++ d) (g ∷ []), append_assoc c d (g ∷ [])))
 
   row-length : length (row a b c d f) ≡ 261
-  row-length = ap length by_4 ∙ omega (arith, length_append (a ++ (b ++ (c ++ d))) (f ∷ []), abcd)
+  row-length = ap length by_4 ∙ omega (arith, length-append (a ++ (b ++ (c ++ d))) (f ∷ []), abcd)
 
 -- ** A block of 65 words, lent and given back
 

@@ -7,7 +7,7 @@ use native.Mathlib.Numerals.{add-one}
 use native.Mathlib.Omega.{arith}
 use borrow.Author.Tests.{lt-ltb, le-ltb}
 use lib.Dec.{eqb, ltb}
-use lib.ListN.{length, drop, get_or, set, length_append, length-set}
+use lib.ListN.{length, drop, get_or, set, length-append, length-set}
 use lib.Seq.{sets, length-sets}
 use Rattle.text.specs.Put.{Put, last}
 use Rattle.text.proofs.Laws.{sets_append, put_none, put_then, put-length, put_whole}
@@ -26,7 +26,7 @@ put-end h k f = omega (arith, f.end)
 
 -- and what comes after it fits as it did before
 pub put-room : {l x m : List ℕ} {p q : ℕ} → length l ≤ last → (y : List ℕ) → p + length (x ++ y) ≤ length l → Put l p x m q → q + length y ≤ length m
-put-room {l} {x} {m} h y k f = omega (arith, f.end, put-length f, length_append x y)
+put-room {l} {x} {m} h y k f = omega (arith, f.end, put-length f, length-append x y)
 
 -- ** Numbers
 
@@ -47,7 +47,7 @@ module _ {xs old : List ℕ} {at : ℕ} {out : List ℕ} {p i : ℕ} (s : Packs 
 
   pub packs_room : i < length xs → p + length (varint_of (get_or xs i 0)) ≤ length out
   packs_room h =
-      omega (arith, s.end, s.room, packs_length, ap length (packed-at xs i h), length_append (varint_of (get_or xs i 0)) (packed_of (drop (i + 1) xs)))
+      omega (arith, s.end, s.room, packs_length, ap length (packed-at xs i h), length-append (varint_of (get_or xs i 0)) (packed_of (drop (i + 1) xs)))
 
   pub packs_next : i < length xs → {new : List ℕ} {q : ℕ} → Put out p (varint_of (get_or xs i 0)) new q → Packs xs old at new q (i + 1)
   packs_next h {new} {q} f =
@@ -57,7 +57,7 @@ module _ {xs old : List ℕ} {at : ℕ} {out : List ℕ} {p i : ℕ} (s : Packs 
         fits = s.fits;
         room = s.room;
         bytes = rw (f.bytes, e) (sym (sets_append (varint_of (get_or xs i 0)) (packed_of (drop (i + 1) xs)) out p) ∙ rw (packed-at xs i h) at s.bytes);
-        end = omega (arith, e, s.end, ap length (packed-at xs i h), length_append (varint_of (get_or xs i 0)) (packed_of (drop (i + 1) xs)));
+        end = omega (arith, e, s.end, ap length (packed-at xs i h), length-append (varint_of (get_or xs i 0)) (packed_of (drop (i + 1) xs)));
       }
 
   pub packs_end : length xs ≤ i → Put old at (packed_of xs) out p
@@ -100,7 +100,7 @@ module _ {f p packed : ℕ} {ws : List ℕ} {k room : ℕ} (s : Listable f p pac
 
     pub listing-room : p + (1 + (length (varint_of packed) + length (packed_of (list_in ws k)))) ≤ room
     listing-room =
-        omega (arith, s.fits, ap length some, length_append (varint_of (length (packed_of (list_in ws k)))) (packed_of (list_in ws k)), ap (λ (n : ℕ). length (varint_of n)) s.size)
+        omega (arith, s.fits, ap length some, length-append (varint_of (length (packed_of (list_in ws k)))) (packed_of (list_in ws k)), ap (λ (n : ℕ). length (varint_of n)) s.size)
 
     module _ (l : List ℕ) (h : length l ≤ last) (r : room ≡ length l) where
       pub listing-first : p + 1 + length (varint_of packed) ≤ length (set l p (8 * f + 2))
@@ -142,7 +142,7 @@ module _ {ws : List ℕ} {z : Sizes} (l : List ℕ) (h : length l ≤ last) (r :
     block = block_1 r.0;
     tag = omega arith;
     size = ap (λ (y : Sizes). y.voters) r.1;
-    fits = omega (arith, room_1, length_append (list_field 1 (list_in ws 0)) (from_2 (message_in ws)));
+    fits = omega (arith, room_1, length-append (list_field 1 (list_in ws 0)) (from_2 (message_in ws)));
   }
 
   module _ {m : List ℕ} {a : ℕ} (f : Put l 0 (list_field 1 (list_in ws 0)) m a) where
@@ -155,7 +155,7 @@ module _ {ws : List ℕ} {z : Sizes} (l : List ℕ) (h : length l ≤ last) (r :
       block = block_2 r.0;
       tag = omega arith;
       size = ap (λ (y : Sizes). y.learners) r.1;
-      fits = omega (arith, room_2, length_append (list_field 2 (list_in ws 65)) (from_3 (message_in ws)));
+      fits = omega (arith, room_2, length-append (list_field 2 (list_in ws 65)) (from_3 (message_in ws)));
     }
 
     module _ {n : List ℕ} {b : ℕ} (g : Put m a (list_field 2 (list_in ws 65)) n b) where
@@ -169,7 +169,7 @@ module _ {ws : List ℕ} {z : Sizes} (l : List ℕ) (h : length l ≤ last) (r :
         block = block_3 r.0;
         tag = omega arith;
         size = ap (λ (y : Sizes). y.outgoing) r.1;
-        fits = omega (arith, room_3, length_append (list_field 3 (list_in ws 130)) (from_4 (message_in ws)));
+        fits = omega (arith, room_3, length-append (list_field 3 (list_in ws 130)) (from_4 (message_in ws)));
       }
 
       module _ {o : List ℕ} {d : ℕ} (i : Put n b (list_field 3 (list_in ws 130)) o d) where
@@ -183,7 +183,7 @@ module _ {ws : List ℕ} {z : Sizes} (l : List ℕ) (h : length l ≤ last) (r :
           block = block_4 r.0;
           tag = omega arith;
           size = ap (λ (y : Sizes). y.next) r.1;
-          fits = omega (arith, room_4, length_append (list_field 4 (list_in ws 195)) (flag_field (eqb (at ws 260) 1)));
+          fits = omega (arith, room_4, length-append (list_field 4 (list_in ws 195)) (flag_field (eqb (at ws 260) 1)));
         }
 
         module _ {p : List ℕ} {e : ℕ} (j : Put o d (list_field 4 (list_in ws 195)) p e) where

@@ -1,5 +1,7 @@
 // ConfState as it travels: document 02, k), on byte slices. The message is lent as the words of a CONFSTATE (docs/EMBEDDING.md): four lists, each 64 ids and
 // then the count, and the flag.
+#![tactic(auto)]
+
 pub mod read; // bytes to words
 pub mod write; // words to bytes
 

@@ -4,7 +4,7 @@ use mathlib.Core.Path.{◌≡◌, refl, ap}
 use mathlib.Core.Bool.{Bool, true, false, ◌||◌, cond, false≢true}
 use mathlib.Core.List.{List, []}
 use native.Mathlib.Omega.{arith}
-use borrow.Author.Tests.{ltb_true}
+use borrow.Author.Tests.{ltb-true}
 use lib.Dec.{eqb, ltb}
 use lib.ListN.{length}
 use Rattle.rules.specs.Calls.{enter_joint, leave_joint, simple}
@@ -53,7 +53,7 @@ numbered (suc (suc (suc (suc zero)))) h = refl
 numbered (suc (suc (suc (suc (suc zero))))) h = refl
 numbered (suc (suc (suc (suc (suc (suc zero)))))) h = refl
 numbered (suc (suc (suc (suc (suc (suc (suc zero))))))) h = refl
-numbered (suc (suc (suc (suc (suc (suc (suc (suc n)))))))) h = absurd (omega (arith, ltb_true (suc (suc (suc (suc (suc (suc (suc (suc n)))))))) 8 h))
+numbered (suc (suc (suc (suc (suc (suc (suc (suc n)))))))) h = absurd (omega (arith, ltb-true (suc (suc (suc (suc (suc (suc (suc (suc n)))))))) 8 h))
 
 module _ (s : List ℕ) where
   abbrev t : Tracker

@@ -4,7 +4,7 @@ use mathlib.Core.Path.{◌≡◌, refl}
 use mathlib.Core.Bool.{true}
 use mathlib.Core.List.{List, [], ◌∷◌}
 use native.Mathlib.Omega.{arith}
-use borrow.Author.Tests.{lt-ltb, ltb_true}
+use borrow.Author.Tests.{lt-ltb, ltb-true}
 use lib.Dec.{ltb}
 use Rattle.rules.specs.State.{State, formed}
 use Rattle.rules.specs.Answers.{Answer, Verdict, accepted, fault, ok, refused}
@@ -23,7 +23,7 @@ abbrev pub Late : Verdict → Type 0
 Late v = Numbered Over3 v
 
 over : (n : ℕ) → ltb 6 n ≡ true → Over3 n
-over n h = lt-ltb 3 n (omega (arith, ltb_true 6 n h))
+over n h = lt-ltb 3 n (omega (arith, ltb-true 6 n h))
 
 late_ask : (s : State) (p : Step) → NumberedAnswer Over3 (ask s p)
 late_ask = asked-numbered Over3 (check-numbered Over3 over) (λ n h e. h)

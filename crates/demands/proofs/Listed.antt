@@ -3,7 +3,7 @@ use mathlib.Core.Path.{◌≡◌, refl}
 use mathlib.Core.Bool.{Bool, true, false, not, cond}
 use mathlib.Core.List.{List}
 use native.Mathlib.Omega.{arith}
-use borrow.Author.Tests.{eqb-false, ltb_true, ne_eqb}
+use borrow.Author.Tests.{eqb-false, ltb-true, ne_eqb}
 use Rattle.rules.specs.State.{Change, State, formed}
 use Rattle.rules.specs.Answers.{Verdict, ◌▸◌, fault, ok, refuse}
 use Rattle.rules.specs.Check.{check, check_state, is_tracked, joint}
@@ -31,7 +31,7 @@ module _ (t : Tracker) (h : (check_of t).number ≡ 0) where
   passed = go (tracker_well_formed t) refl h
     where
       marked : Marked own
-      marked = check-numbered NotZero (λ n k. ne_eqb n 0 (λ e. omega (arith, ltb_true 6 n k))) (is_tracked s) s.conf
+      marked = check-numbered NotZero (λ n k. ne_eqb n 0 (λ e. omega (arith, ltb-true 6 n k))) (is_tracked s) s.conf
 
       none : (v : Verdict) → Marked v → number_of v ≡ 0 → v ≡ ok
       none ok m e = refl

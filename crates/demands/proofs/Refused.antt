@@ -5,7 +5,7 @@ use mathlib.Core.Path.{◌≡◌, refl, ap, ◌∙◌, sym}
 use mathlib.Core.Bool.{Bool, true, false, ◌&&◌, cond, true≢false}
 use mathlib.Core.List.{List}
 use native.Mathlib.Omega.{arith}
-use borrow.Author.Tests.{ltb_true}
+use borrow.Author.Tests.{ltb-true}
 use lib.Dec.{eqb, ltb}
 use Rattle.rules.specs.State.{State, formed}
 use Rattle.rules.specs.Answers as R
@@ -35,7 +35,7 @@ use Rattle.demands.proofs.Late.{Late, late_run}
 use Rattle.demands.proofs.Stopped.{Stopped, apply-left, run-stops}
 
 late_few : (n : ℕ) → ltb 3 n ≡ true → n ≤ 2 → ⊥
-late_few n h k = omega (arith, ltb_true 3 n h)
+late_few n h k = omega (arith, ltb-true 3 n h)
 
 faulty : (v : Verdict) → 2 < number_of v → passes v ≡ false
 faulty ok h = absurd (omega arith)

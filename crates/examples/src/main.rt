@@ -1,5 +1,7 @@
 // Runs the checked examples of document 01, 1 to 15, on the proved code. Each line has the example's number, what is asked, and what the code
 // answered, in the paper's words. crates/examples/stdout is written from the papers.
+#![tactic(auto)]
+
 use crate::given::{ADD, LEARNER, REMOVE, conf_state, fresh, group, list, none, voters};
 
 mod given; // what the examples begin from

@@ -4,7 +4,7 @@ use mathlib.Core.Path.{◌≡◌, refl}
 use mathlib.Core.Bool.{Bool, true, false, not}
 use mathlib.Core.List.{List, [], ◌∷◌}
 use native.Mathlib.Omega.{arith}
-use borrow.Author.Tests.{eq-eqb, le_leb, lt-leb, lt-ltb, le-ltb, ne_eqb}
+use borrow.Author.Tests.{eq-eqb, le-leb, lt-leb, lt-ltb, le-ltb, ne_eqb}
 use lib.Dec.{eqb, eqb-suc-zero}
 use lib.ListN.{length, take, drop, length-take}
 use Rattle.rules.specs.Ids.{memb, ascending, is_empty}
@@ -30,11 +30,11 @@ module _ (l : List ℕ) (n : ℕ) where
     module _ (h : n ≤ 64) (b : Bool) (e : b ≡ ascending (take n l)) where
       pub form_unsorted : b ≡ false → true ≡ not (well_formed (record { ids = l; len = n }))
       unfolding well_formed
-      form_unsorted f = rw (eq-eqb _ _ long, le_leb _ _ h, ← e, f)
+      form_unsorted f = rw (eq-eqb _ _ long, le-leb _ _ h, ← e, f)
 
       pub form_zeros : b ≡ true → (r : Bool) → r ≡ zeros (drop n l) → not r ≡ not (well_formed (record { ids = l; len = n }))
       unfolding well_formed
-      form_zeros f r z = rw (eq-eqb _ _ long, le_leb _ _ h, ← e, f, z)
+      form_zeros f r z = rw (eq-eqb _ _ long, le-leb _ _ h, ← e, f, z)
 
 module _ (s : IdSet) (long : length s.ids ≡ 64) where
   pub empty_none : eqb s.len 0 ≡ is_empty (held s)
@@ -55,7 +55,7 @@ module _ (s : IdSet) (x : ℕ) (b : Bool) (e : b ≡ memb x (held s)) where
   module _ (f : b ≡ false) where
     pub insert_full : 64 ≤ s.len → ◌≡◌ {A = Inserted} (record { set = s; changed = false; full = true }) (insert_of x s)
     unfolding insert_of
-    insert_full h = rw (← e, f, le_leb _ _ h)
+    insert_full h = rw (← e, f, le-leb _ _ h)
 
     pub insert_new : s.len < 64 → (at : ℕ) → at ≡ 0 + rank x (drop 0 (held s)) → (l : List ℕ) → l ≡ insert_at at x s.ids
         → ◌≡◌ {A = Inserted} (record { set = record { ids = l; len = s.len + 1 }; changed = true; full = false }) (insert_of x s)

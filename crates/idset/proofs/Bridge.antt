@@ -5,10 +5,10 @@ use mathlib.Core.Path.{◌≡◌, refl, ap, ◌∙◌, sym}
 use mathlib.Core.Bool.{Bool, true, false, ◌&&◌, not, cond}
 use mathlib.Core.List.{List, [], ◌∷◌, ◌++◌}
 use native.Mathlib.Omega.{arith}
-use borrow.Author.Tests.{eq-eqb, eqb-true, leb-true, leb-false, le_leb, lt-leb}
+use borrow.Author.Tests.{eq-eqb, eqb-true, leb-true, leb-false, le-leb, lt-leb}
 use lib.Dec.{eqb, leb}
-use lib.ListN.{length, drop, replicate, length-drop, length_append, length-replicate, take-append-drop}
-use lib.Seq.{length_take_le, take-append_seam, drop_append_seam}
+use lib.ListN.{length, drop, replicate, length-drop, length-append, length-replicate, take-append-drop}
+use lib.Seq.{length-take-le, take-append_seam, drop-append_seam}
 use Rattle.rules.specs.Ids.{ascending, insert_all, insert_id, memb, remove_id}
 use Rattle.rules.proofs.Sets.{and_left, and_right, insert_same, length_remove, remove_none}
 use Rattle.idset.specs.Places.{zeros, rank, place_of, insert_at, remove_at}
@@ -49,7 +49,7 @@ formed s h =
 
 pub well_formed_lem : (s : IdSet) → Formed s → well_formed s ≡ true
 unfolding well_formed
-well_formed_lem s f = rw (eq-eqb _ _ f.long, le_leb _ _ f.room, f.rising, f.clear)
+well_formed_lem s f = rw (eq-eqb _ _ f.long, le-leb _ _ f.room, f.rising, f.clear)
 
 zeros-all : (l : List ℕ) → zeros l ≡ true → l ≡ replicate (length l) 0
 unfolding zeros
@@ -63,7 +63,7 @@ zeros-replicate (suc n) = zeros-replicate n
 
 module _ (s : IdSet) (w : well_formed s ≡ true) where
   pub length-held : length (held s) ≡ s.len
-  length-held = length_take_le s.len s.ids (omega (arith, (formed s w).long, (formed s w).room))
+  length-held = length-take-le s.len s.ids (omega (arith, (formed s w).long, (formed s w).room))
 
   pub held-few : length (held s) ≤ 64
   held-few = omega (arith, length-held, (formed s w).room)
@@ -90,10 +90,10 @@ pub set-formed : (xs : List ℕ) → ascending xs ≡ true → length xs ≤ 64 
 unfolding set_of
 set-formed xs a h =
     well_formed_lem (set_of xs) (record {
-      long = omega (arith, length_append xs (replicate (64 - length xs) 0), length-replicate {A = ℕ} (64 - length xs) 0);
+      long = omega (arith, length-append xs (replicate (64 - length xs) 0), length-replicate {A = ℕ} (64 - length xs) 0);
       room = h;
       rising = ap ascending (held-set xs h) ∙ a;
-      clear = ap zeros (drop_append_seam xs (replicate (64 - length xs) 0)) ∙ zeros-replicate (64 - length xs);
+      clear = ap zeros (drop-append_seam xs (replicate (64 - length xs) 0)) ∙ zeros-replicate (64 - length xs);
     })
 
 -- ** Insert and remove
@@ -152,4 +152,4 @@ module _ (x : ℕ) (s : IdSet) (w : well_formed s ≡ true) where
 pub union_formed : (s t : IdSet) → well_formed s ≡ true → well_formed t ≡ true → length (insert_all (held s) (held t)) ≤ 64
     → union_of s t ≡ record { set = set_of (insert_all (held s) (held t)); full = false }
 unfolding union_of
-union_formed s t v w h = rw (merge-all (held s) (held t) (held_rises s v) (held_rises t w), le_leb (length (insert_all (held s) (held t))) 64 h)
+union_formed s t v w h = rw (merge-all (held s) (held t) (held_rises s v) (held_rises t w), le-leb (length (insert_all (held s) (held t))) 64 h)

@@ -2,10 +2,10 @@
 -- that rank loses no id from there on. Assumes nothing.
 use Prim.Native.Nat.{ℕ, zero, suc, ◌+◌, ◌≤◌}
 use mathlib.Core.Path.{◌≡◌, refl, ap, ◌∙◌, sym}
-use mathlib.Core.Bool.{Bool, true, false, ◌||◌, cond, or_false}
+use mathlib.Core.Bool.{Bool, true, false, ◌||◌, cond, or-false}
 use mathlib.Core.List.{List, [], ◌∷◌}
 use native.Mathlib.Omega.{arith}
-use borrow.Author.Tests.{ne_eqb, ltb_true, ltb-false}
+use borrow.Author.Tests.{ne_eqb, ltb-true, ltb-false}
 use lib.Dec.{eqb, ltb}
 use lib.ListN.{drop}
 use lib.Seq.{drop-drop}
@@ -26,9 +26,9 @@ at-rank x (y ∷ ys) a = go (ltb y x) refl (at-rank x ys (rising_tail y ys a))
   where
     go : (b : Bool) → ltb y x ≡ b → memb x ys ≡ first_is x (drop (rank x ys) ys) → eqb y x || memb x ys ≡ first_is x (drop (cond b (suc (rank x ys)) 0) (y ∷ ys))
     go true e ih =
-        let ne : y ≡ x → ⊥ = omega (arith, ltb_true y x e) in
+        let ne : y ≡ x → ⊥ = omega (arith, ltb-true y x e) in
         rw (ne_eqb y x ne) ih
-    go false e ih = rw (above_none x y ys a (ltb-false y x e)) (or_false (eqb y x))
+    go false e ih = rw (above_none x y ys a (ltb-false y x e)) (or-false (eqb y x))
 
 past-rank : (x z : ℕ) (ys : List ℕ) → x ≤ z → memb z (drop (rank x ys) ys) ≡ memb z ys
 unfolding memb rank
@@ -37,7 +37,7 @@ past-rank x z (y ∷ ys) h = go (ltb y x) refl (past-rank x z ys h)
   where
     go : (b : Bool) → ltb y x ≡ b → memb z (drop (rank x ys) ys) ≡ memb z ys → memb z (drop (cond b (suc (rank x ys)) 0) (y ∷ ys)) ≡ eqb y z || memb z ys
     go true e ih =
-        let ne : y ≡ z → ⊥ = omega (arith, ltb_true y x e) in
+        let ne : y ≡ z → ⊥ = omega (arith, ltb-true y x e) in
         rw (ne_eqb y z ne) ih
     go false e ih = refl
 

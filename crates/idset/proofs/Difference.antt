@@ -4,7 +4,7 @@ use mathlib.Core.Path.{◌≡◌, refl, ap, ◌∙◌, sym}
 use mathlib.Core.Bool.{Bool, true, false, ◌||◌, cond}
 use mathlib.Core.List.{List, [], ◌∷◌}
 use native.Mathlib.Omega.{arith}
-use borrow.Author.Tests.{ne_eqb, eqb-false, ltb_true, ltb-false, le_leb}
+use borrow.Author.Tests.{ne_eqb, eqb-false, ltb-true, ltb-false, le-leb}
 use lib.Dec.{eqb, ltb, leb}
 use lib.ListN.{length}
 use Rattle.rules.specs.Ids.{memb, ascending, minus}
@@ -73,7 +73,7 @@ diff_nil_right xs = ap (λ (l : List ℕ). length l + 0) (minus_none xs) ∙ (om
 -- ** The walk
 
 long : (n : ℕ) → leb 2 (suc (suc n)) ≡ true
-long n = le_leb 2 (suc (suc n)) (omega arith)
+long n = le-leb 2 (suc (suc n)) (omega arith)
 
 -- a difference is met: n is what is left after it
 met : (seen : Bool) (b : Bool) (n : ℕ) → b ≡ leb 2 (suc n) → cond seen true b ≡ leb 2 (tally seen (suc n))
@@ -96,8 +96,8 @@ walk_same (x ∷ xs) (y ∷ ys) seen a b =
     go : (p : Bool) → ltb x y ≡ p → (q : Bool) → ltb y x ≡ q → two_apart true xs (y ∷ ys) ≡ leb 2 (suc (difference xs (y ∷ ys))) → two_apart true (x ∷ xs) ys ≡ leb 2 (suc (difference (x ∷ xs) ys))
         → two_apart seen xs ys ≡ leb 2 (tally seen (difference xs ys))
         → cond p (cond seen true (two_apart true xs (y ∷ ys))) (cond q (cond seen true (two_apart true (x ∷ xs) ys)) (two_apart seen xs ys)) ≡ leb 2 (tally seen (difference (x ∷ xs) (y ∷ ys)))
-    go true p q e f g h = met seen (two_apart true xs (y ∷ ys)) (difference xs (y ∷ ys)) f ∙ ap (λ (n : ℕ). leb 2 (tally seen n)) (sym (diff_left x y xs ys b (ltb_true x y p)))
-    go false p true e f g h = met seen (two_apart true (x ∷ xs) ys) (difference (x ∷ xs) ys) g ∙ ap (λ (n : ℕ). leb 2 (tally seen n)) (sym (diff_right x y xs ys a (ltb_true y x e)))
+    go true p q e f g h = met seen (two_apart true xs (y ∷ ys)) (difference xs (y ∷ ys)) f ∙ ap (λ (n : ℕ). leb 2 (tally seen n)) (sym (diff_left x y xs ys b (ltb-true x y p)))
+    go false p true e f g h = met seen (two_apart true (x ∷ xs) ys) (difference (x ∷ xs) ys) g ∙ ap (λ (n : ℕ). leb 2 (tally seen n)) (sym (diff_right x y xs ys a (ltb-true y x e)))
     go false p false e f g h = h ∙ ap (λ (n : ℕ). leb 2 (tally seen n)) (sym (diff_same x y xs ys a b (omega (arith, ltb-false x y p, ltb-false y x e))))
 
 pub walk_decides : (xs ys : List ℕ) → ascending xs ≡ true → ascending ys ≡ true → two_apart false xs ys ≡ leb 2 (difference xs ys)

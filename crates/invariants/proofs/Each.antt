@@ -5,7 +5,7 @@ use mathlib.Core.Path.{◌≡◌, refl, ap, ◌∙◌, sym}
 use mathlib.Core.Bool.{Bool, true, false, cond}
 use mathlib.Core.List.{List, [], ◌∷◌}
 use native.Mathlib.Omega.{arith}
-use borrow.Author.Tests.{lt-ltb, le-ltb, ltb_true, ltb-false}
+use borrow.Author.Tests.{lt-ltb, le-ltb, ltb-true, ltb-false}
 use lib.Dec.{ltb}
 use Rattle.rules.specs.Answers.{Verdict, ok, fault, each, refuse, ◌▸◌}
 use Rattle.rules.specs.Ids.{above, ascending, insert_all}
@@ -44,7 +44,7 @@ module _ {f : ℕ → Verdict} (a : Local f) where
   each-later p (x ∷ xs) r n y e = go (f x) refl e (each-later x xs (and_right (ltb p x) (above x xs) r) n y)
     where
       l : p < x
-      l = ltb_true p x (and_left (ltb p x) (above x xs) r)
+      l = ltb-true p x (and_left (ltb p x) (above x xs) r)
 
       go : (v : Verdict) → f x ≡ v → v ▸ each f xs ≡ fault n y → (each f xs ≡ fault n y → x < y) → p < y
       go ok q e ih = omega (arith, ih e, l)
@@ -109,8 +109,8 @@ module _ {g : ℕ → Verdict} (a : Local g) where
 
       go : (b : Bool) → ltb x y ≡ b → (c : Bool) → ltb y x ≡ c → each g (merge xs (y ∷ ys)) ≡ sooner (each g xs) (each g (y ∷ ys)) → each g (merge (x ∷ xs) ys) ≡ sooner (each g (x ∷ xs)) (each g ys) → each g (merge xs ys) ≡ sooner (each g xs) (each g ys)
           → each g (cond b (x ∷ merge xs (y ∷ ys)) (cond c (y ∷ merge (x ∷ xs) ys) (x ∷ merge xs ys))) ≡ sooner (each g (x ∷ xs)) (each g (y ∷ ys))
-      go true p c q i j k = left (omega (arith, ltb_true x y p)) (g x) (each g (merge xs (y ∷ ys))) refl (λ e. i)
-      go false p true q i j k = right (ltb_true y x q) (g y) (each g (merge (x ∷ xs) ys)) refl j
+      go true p c q i j k = left (omega (arith, ltb-true x y p)) (g x) (each g (merge xs (y ∷ ys))) refl (λ e. i)
+      go false p true q i j k = right (ltb-true y x q) (g y) (each g (merge (x ∷ xs) ys)) refl j
       go false p false q i j k =
           let l : x ≤ y = ltb-false y x q in
           let e : x ≡ y = omega (arith, ltb-false x y p, ltb-false y x q) in

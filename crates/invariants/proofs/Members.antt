@@ -5,7 +5,7 @@ use mathlib.Core.Path.{◌≡◌, refl, ap, ◌∙◌, sym}
 use mathlib.Core.Bool.{Bool, true, false, ◌||◌, not}
 use mathlib.Core.List.{List}
 use native.Mathlib.Omega.{arith}
-use borrow.Author.Tests.{not_false}
+use borrow.Author.Tests.{not-false}
 use lib.ListN.{length}
 use Rattle.rules.specs.Answers.{Verdict, ok, each, refuse}
 use Rattle.rules.specs.Check.{check}
@@ -43,7 +43,7 @@ module _ (xs ys : List ℕ) (a : ascending xs ≡ true) (b : ascending ys ≡ tr
   missing x = refuse (not (memb x ys)) 1 x
 
   none_missing : each missing xs ≡ ok → xs ≡ ys
-  none_missing e = ascending_ext xs ys a b (λ x. both_ways (memb x xs) (memb x ys) (λ m. not_false (memb x ys) (refuse-ok (not (memb x ys)) 1 x (each-ok missing xs e x m))) (h x))
+  none_missing e = ascending_ext xs ys a b (λ x. both_ways (memb x xs) (memb x ys) (λ m. not-false (memb x ys) (refuse-ok (not (memb x ys)) 1 x (each-ok missing xs e x m))) (h x))
 
   pub walk_same : not (found_of (first_out xs ys)).some ≡ same_ids xs ys
   walk_same = go (first_out xs ys) (walk_each walk_out 1 ys b xs a)

@@ -4,7 +4,7 @@ use mathlib.Core.Path.{◌≡◌, refl, ap, ◌∙◌, sym}
 use mathlib.Core.Bool.{Bool, true, false, ◌&&◌, not}
 use mathlib.Core.List.{List}
 use native.Mathlib.Omega.{arith}
-use borrow.Author.Tests.{not_true, not_false}
+use borrow.Author.Tests.{not-true, not-false}
 use lib.ListN.{length}
 use Rattle.rules.specs.Answers as rules
 use Rattle.rules.specs.Answers.{ok, fault, passes}
@@ -53,10 +53,10 @@ check_ill t h = rw h
 
 module _ (t : Tracker) {m : Bool} (q : m ≡ not (tracker_well_formed t)) where
   pub check-malformed : m ≡ true → ◌≡◌ {A = Verdict} (record { number = 1; id = 0 }) (check_of t)
-  check-malformed h = sym (check_ill t (not_true (tracker_well_formed t) (sym q ∙ h)))
+  check-malformed h = sym (check_ill t (not-true (tracker_well_formed t) (sym q ∙ h)))
 
   pub check-formed : m ≡ false → {r : Verdict} → r ≡ verdict_of (walk_of t) → r ≡ check_of t
-  check-formed h e = e ∙ sym (check_well t (not_false (tracker_well_formed t) (sym q ∙ h)))
+  check-formed h e = e ∙ sym (check_well t (not-false (tracker_well_formed t) (sym q ∙ h)))
 
 -- ** In order
 
@@ -102,9 +102,9 @@ module _ (t : Tracker) {v : Verdict} (q : v ≡ check_of t) where
             go false h = refl
 
         pub order_strangers : not m ≡ true → false ≡ in_order_of t
-        order_strangers y = sym (so_far ∙ rw (not_true m y))
+        order_strangers y = sym (so_far ∙ rw (not-true m y))
 
         pub order_apart : not m ≡ false → {r : Bool} → r ≡ are_apart (conf_of t.conf) → r ≡ in_order_of t
         order_apart y q =
             let c : Sets t.conf = conf-sets t.conf (tracker_parts t passing.well).conf in
-            q ∙ walk_apart (conf_of t.conf).staged (conf_of t.conf).incoming (held_rises _ c.next) (held_rises _ c.incoming) ∙ sym (so_far ∙ rw (not_false m y))
+            q ∙ walk_apart (conf_of t.conf).staged (conf_of t.conf).incoming (held_rises _ c.next) (held_rises _ c.incoming) ∙ sym (so_far ∙ rw (not-false m y))

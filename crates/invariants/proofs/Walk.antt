@@ -5,13 +5,13 @@ use mathlib.Core.Path.{◌≡◌, refl, ap, ◌∙◌, sym}
 use mathlib.Core.Bool.{Bool, true, false, not, true≢false, beq}
 use mathlib.Core.List.{List, [], ◌∷◌}
 use native.Mathlib.Omega.{arith}
-use borrow.Author.Tests.{not_true, not_false, ltb_true, ltb-false}
+use borrow.Author.Tests.{not-true, not-false, ltb-true, ltb-false}
 use lib.Dec.{eqb, ltb}
 use lib.ListN.{length, take, drop, get_or}
 use lib.Seq.{drop-drop}
 use Rattle.rules.specs.Answers.{each, refuse, ◌▸◌}
 use Rattle.rules.specs.Ids.{above, ascending, memb}
-use Rattle.rules.proofs.Sets.{above_none, memb_head, or_true, rising_tail}
+use Rattle.rules.proofs.Sets.{above_none, memb_head, or-true, rising_tail}
 use Rattle.idset.specs.Places.{rank, first_is}
 use Rattle.idset.proofs.Cursor.{found_at, still_ahead}
 use Rattle.idset.proofs.Part.{part_cons, part_end, part_out}
@@ -87,17 +87,17 @@ asked false b = not b
 
 asked-yes : (met b : Bool) → asked met b ≡ true → b ≡ met
 asked-yes true b h = h
-asked-yes false b h = not_true b h
+asked-yes false b h = not-true b h
 
 asked_no : (met b : Bool) → asked met b ≡ false → b ≡ not met
 asked_no true b h = h
-asked_no false b h = not_false b h
+asked_no false b h = not-false b h
 
 pub memb-later : (p x : ℕ) (xs : List ℕ) → above p xs ≡ true → memb x xs ≡ true → p < x
 memb-later p x xs a m = go (ltb p x) refl
   where
     go : (b : Bool) → ltb p x ≡ b → p < x
-    go true e = ltb_true p x e
+    go true e = ltb-true p x e
     go false e = absurd (true≢false (sym m ∙ above_none x p xs a (ltb-false p x e)))
 
 module _ {met : Bool} {walk : List ℕ → List ℕ → First} (w : Walk met walk) (n : ℕ) (ys : List ℕ) (b : ascending ys ≡ true) where
@@ -121,7 +121,7 @@ module _ {met : Bool} {walk : List ℕ → List ℕ → First} (w : Walk met wal
       rest z m =
           let l : x < z = memb-later x z xs a m in
           let k : x ≤ z = omega arith in
-          still_ahead x z i ys b k ∙ h z (or_true (eqb x z) (memb z xs) m)
+          still_ahead x z i ys b k ∙ h z (or-true (eqb x z) (memb z xs) m)
 
       go : (c : Bool) → asked met (memb x ys) ≡ c → fault_at (walk xs (drop r ys)) n ≡ each (λ x. refuse (asked met (memb x ys)) n x) xs
           → fault_at (walk (x ∷ xs) (drop i ys)) n ≡ refuse c n x ▸ each (λ x. refuse (asked met (memb x ys)) n x) xs

@@ -1,4 +1,6 @@
 // The check, `check_invariants` of src/confchange/changer.rs, and in order. Sets are ascending, so each test walks two of them side by side.
+#![tactic(auto)]
+
 ghost use Rattle.std.specs.Prelude.{◌≡◌, take};
 ghost use Rattle.idset.specs.Set.{held};
 ghost use Rattle.tracker.specs.Bridge.{conf_of};

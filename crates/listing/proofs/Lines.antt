@@ -4,7 +4,7 @@ use mathlib.Core.Path.{◌≡◌, refl, ap, sym, ◌∙◌}
 use mathlib.Core.List.{List, [], ◌∷◌, ◌++◌, append_assoc}
 use native.Mathlib.Omega.{arith, min_cases}
 use lib.ListN.{length, take, drop, get_or, length-take, length-drop}
-use lib.Seq.{length_take_le, take_all, get_or-drop, get_or-take}
+use lib.Seq.{length-take-le, take_all, get_or-drop, get_or-take}
 use Rattle.text.specs.Put.{Put, last}
 use Rattle.text.specs.Text.{decimal, each}
 use Rattle.text.proofs.Laws.{Passing, pass_start, pass_next, pass_end, pass_length, rest_all, rest_put, rest-last}
@@ -24,7 +24,7 @@ module _ {A : Type 0} {k m : ℕ} (n : ℕ) (l : List A) (e : length l ≡ k) (h
   take_least = min_cases n k (take m l ≡ take n l) (λ a b. rw (h, b)) (λ a b. rw (h, b) (take_all k l (omega arith) ∙ sym (take_all n l (omega arith))))
 
   pub least_length : m ≡ length (take m l)
-  least_length = sym (length_take_le m l (omega arith))
+  least_length = sym (length-take-le m l (omega arith))
 
 -- ** An entry
 

@@ -4,7 +4,7 @@ use mathlib.Core.Path.{◌≡◌, refl, sym, ◌∙◌}
 use mathlib.Core.Bool.{Bool, true, false, not, ◌||◌}
 use mathlib.Core.List.{List, [], ◌∷◌}
 use native.Mathlib.Omega.{arith}
-use borrow.Author.Tests.{eq-eqb, ne_eqb, le_leb, lt-leb, leb-true, leb-false, lt-ltb, le-ltb}
+use borrow.Author.Tests.{eq-eqb, ne_eqb, le-leb, lt-leb, leb-true, leb-false, lt-ltb, le-ltb}
 use lib.Dec.{eqb, leb, eqb-suc-zero}
 use lib.ListN.{length, take, length-take}
 use Rattle.rules.specs.Ids.{is_empty}
@@ -13,9 +13,9 @@ use Rattle.listing.specs.Sessions.{session_of}
 use Rattle.listing.specs.declared.Session.{Session}
 use Rattle.listing.proofs.Cases.{either}
 
-or_false : (b : Bool) → b || false ≡ b
-or_false true = refl
-or_false false = refl
+or-false : (b : Bool) → b || false ≡ b
+or-false true = refl
+or-false false = refl
 
 empty_none : (n : ℕ) (l : List ℕ) → length l ≡ 256 → eqb n 0 ≡ is_empty (take n l)
 empty_none zero l h = refl
@@ -33,7 +33,7 @@ module _ (z : Session) (long : length z.ids ≡ 256) where
   many_pending =
       let n : ℕ = length (take z.len z.ids) in
       either (leb 256 z.len)
-      (λ e. e ∙ sym (le_leb 256 n (omega (arith, leb-true 256 z.len e, length-take z.len z.ids))))
+      (λ e. e ∙ sym (le-leb 256 n (omega (arith, leb-true 256 z.len e, length-take z.len z.ids))))
       (λ e. e ∙ sym (lt-leb 256 n (omega (arith, leb-false 256 z.len e, length-take z.len z.ids))))
 
 module _ (z : Session) (kind : ℕ) where
@@ -44,7 +44,7 @@ module _ (z : Session) (kind : ℕ) where
   module _ (known : kind ≤ 6) where
     pub stops-change : length z.ids ≡ 256 → kind ≤ 2 → leb 256 z.len ≡ stops (session_of z) kind
     unfolding stops
-    stops-change long h = rw (le-ltb 6 kind known, le_leb kind 2 h, ne_eqb kind 6 (omega arith), many_pending z long) (sym (or_false _))
+    stops-change long h = rw (le-ltb 6 kind known, le-leb kind 2 h, ne_eqb kind 6 (omega arith), many_pending z long) (sym (or-false _))
 
     module _ (run : 2 < kind) where
       pub stops-leave : length z.ids ≡ 256 → kind ≡ 6 → not (eqb z.len 0) ≡ stops (session_of z) kind

@@ -8,7 +8,7 @@ use native.Mathlib.Omega.{arith}
 use borrow.Author.Tests.{eqb-true, leb-false, lt-leb}
 use lib.Dec.{eqb, leb, ltb}
 use lib.ListN.{length, take, set, length-set, length-replicate}
-use lib.Seq.{length_take_le, take-suc-set}
+use lib.Seq.{length-take-le, take-suc-set}
 use Rattle.rules.specs.Ids.{is_empty, ascending}
 use Rattle.rules.specs.State.{State, fresh, formed, conf_formed, ids}
 use Rattle.rules.specs.Answers.{Answer, refused}
@@ -155,7 +155,7 @@ module _ (z : Session) (g : Good z) (kind : ℕ) where
 
     module _ (h : stops (session_of z) kind ≡ false) where
       fewer : is_change kind ≡ true → z.len < 256
-      fewer c = omega (arith, room (session_of z) kind h c, length_take_le z.len z.ids (omega (arith, g.few, g.ids)))
+      fewer c = omega (arith, room (session_of z) kind h c, length-take-le z.len z.ids (omega (arith, g.few, g.ids)))
 
       pub after_good : Good (after_in z kind n)
       unfolding after_in

@@ -5,7 +5,7 @@ use mathlib.Core.Bool.{Bool, true, false, cond}
 use mathlib.Core.List.{List, [], ◌∷◌}
 use native.Mathlib.Omega.{arith}
 use lib.Dec.{ltb}
-use lib.ListN.{length, length_append}
+use lib.ListN.{length, length-append}
 use Rattle.rules.specs.Ids.{is_empty}
 use Rattle.rules.specs.State.{Conf, State, Entry, add, remove, conf_formed, formed}
 use Rattle.rules.specs.Answers.{Answer, accepted, refused}
@@ -32,7 +32,7 @@ use Rattle.listing.proofs.Sessions.{fresh-formed, idle, told, told-fits, answer-
 
 labelled-size : (label xs : List ℕ) → length xs ≤ 64 → length (labelled label xs) ≤ length label + 1346
 unfolding labelled
-labelled-size label xs h = either (is_empty xs) (λ e. rw e (omega arith)) (λ e. rw e (omega (arith, length_append label (group xs), group-size xs)))
+labelled-size label xs h = either (is_empty xs) (λ e. rw e (omega arith)) (λ e. rw e (omega (arith, length-append label (group xs), group-size xs)))
 
 auto_size : (b : Bool) → length (cond b (ascii " autoleave") []) ≤ 10
 auto_size true = omega arith
@@ -42,7 +42,7 @@ conf-size : (c : Conf) → conf_formed c ≡ true → length (conf_text c) ≤ 5
 unfolding conf_text
 conf-size c w =
     let s : Sets c = sets_of c w in
-    simp length_append (omega (arith, group-size c.incoming, labelled-size (ascii "&&") c.outgoing s.outgoing.few, labelled-size (ascii " learners=") c.learners s.learners.few, labelled-size (ascii " learners_next=") c.staged s.staged.few, auto_size c.auto_leave))
+    simp length-append (omega (arith, group-size c.incoming, labelled-size (ascii "&&") c.outgoing s.outgoing.few, labelled-size (ascii " learners=") c.learners s.learners.few, labelled-size (ascii " learners_next=") c.staged s.staged.few, auto_size c.auto_leave))
 
 entry-size : (e : Entry) → length (entry_text e) ≤ 21
 unfolding entry_text
@@ -52,26 +52,26 @@ entry-size (remove x) = omega (arith, decimal-length x)
 entries_size : (es : List Entry) → length (entries_text es) ≤ 22 * length es
 unfolding entries_text
 entries_size [] = omega arith
-entries_size (e ∷ es) = omega (arith, length_append (entry_text e) (each spaced_entry es), entry-size e, each-size spaced_entry 22 (λ x. omega (arith, entry-size x)) es)
+entries_size (e ∷ es) = omega (arith, length-append (entry_text e) (each spaced_entry es), entry-size e, each-size spaced_entry 22 (λ x. omega (arith, entry-size x)) es)
 
 log-size : (es : List Entry) → length es ≤ 256 → length (log_text es) ≤ 5634
 unfolding log_text
-log-size es h = simp length_append (omega (arith, entries_size es))
+log-size es h = simp length-append (omega (arith, entries_size es))
 
 -- ** Lines
 
 refused-size : (k n x : ℕ) → length (refused_line k n x) ≤ 11300
 unfolding refused_line
-refused-size k n x = simp length_append (omega (arith, decimal-length k, decimal-length n, decimal-length x))
+refused-size k n x = simp length-append (omega (arith, decimal-length k, decimal-length n, decimal-length x))
 
 answer-size : (s : State) (n : ℕ) (a : Answer) → Fits s n a → (k : ℕ) → length (answer_line k a) ≤ 11300
 unfolding ok_line Fits
-answer-size s n (accepted c log) h k = simp length_append (omega (arith, decimal-length k, conf-size c h.fits, log-size log h.short))
+answer-size s n (accepted c log) h k = simp length-append (omega (arith, decimal-length k, conf-size c h.fits, log-size log h.short))
 answer-size s n (refused m x) h k = refused-size k m x
 
 pub stopped_size : (at : ℕ) → length (stopped_line at) ≤ 11300
 unfolding stopped_line
-stopped_size at = simp length_append (omega (arith, decimal-length at))
+stopped_size at = simp length-append (omega (arith, decimal-length at))
 
 pub ending-size : (at end : ℕ) (y : script.Session) → length (ending at end y) ≤ 11300
 unfolding ending
@@ -103,7 +103,7 @@ lines-size (suc k) s at y f =
     let kind : ℕ = kind_at s at in
     let n : ℕ = number_at s at in
     let more : length (lines k s (at + 9) (after y kind n)) ≤ 11300 * suc k = lines-size k s (at + 9) (after y kind n) (after-formed y f kind n) in
-    either (stops y kind) (λ e. rw e (omega (arith, stopped_size at))) (λ e. rw e (omega (arith, more, length_append (shown y kind) (lines k s (at + 9) (after y kind n)), shown-size y f kind)))
+    either (stops y kind) (λ e. rw e (omega (arith, stopped_size at))) (λ e. rw e (omega (arith, more, length-append (shown y kind) (lines k s (at + 9) (after y kind n)), shown-size y f kind)))
 
 pub listing-size : (s : List ℕ) → length (listing s) ≤ 11300 * suc (length s / 9)
 unfolding listing

@@ -2,7 +2,7 @@
 use Prim.Native.Nat.{ℕ, ◌≤◌, ◌<◌}
 use mathlib.Core.Path.{◌≡◌, ◌∙◌}
 use mathlib.Core.List.{[]}
-use borrow.Author.Tests.{le_leb, lt-leb, eq-eqb, ne_eqb}
+use borrow.Author.Tests.{le-leb, lt-leb, eq-eqb, ne_eqb}
 use lib.Dec.{eqb}
 use lib.ListN.{take}
 use Rattle.changer.specs.declared.Answer.{Answer}
@@ -30,12 +30,12 @@ module _ (z : Session) (kind : ℕ) where
 
   pub change-shown : kind ≤ 2 → shown_in z kind ≡ []
   unfolding shown_in
-  change-shown h = rw (le_leb kind 2 h)
+  change-shown h = rw (le-leb kind 2 h)
 
   module _ (n : ℕ) where
     pub change-after : kind ≤ 2 → pend_in z kind n ≡ after_in z kind n
     unfolding after_in
-    change-after h = rw (le_leb kind 2 h)
+    change-after h = rw (le-leb kind 2 h)
 
     module _ (h : 2 < kind) {a : Answer} (e : a ≡ answer_in z kind) {next : Session} (f : next ≡ applied_in z a n) where
       pub run-shown : shown_in z kind ≡ answer_text next.printed a

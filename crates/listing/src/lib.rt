@@ -1,4 +1,6 @@
 // Script in, listing out: document 01, "The replay script". The listing is put into a lent slice, as far as it goes there, and counted to its end.
+#![tactic(auto)]
+
 ghost use Rattle.std.specs.Prelude.{◌≡◌, ◌+◌, ◌≤◌, min, length, get_or};
 ghost use Rattle.text.specs.Put.{Put, last};
 ghost use Rattle.listing.specs.Script as script;

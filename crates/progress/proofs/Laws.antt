@@ -2,7 +2,7 @@
 use Prim.Native.Nat.{ℕ}
 use mathlib.Core.Path.{◌≡◌, refl}
 use mathlib.Core.Bool.{Bool, true, false, ◌&&◌, not, false≢true}
-use borrow.Author.Tests.{eqb-true, not_true}
+use borrow.Author.Tests.{eqb-true, not-true}
 use lib.Dec.{eqb}
 use Rattle.progress.specs.Record.{unused_record, is_probe, is_unused}
 use Rattle.progress.specs.declared.Progress.{Progress}
@@ -38,10 +38,10 @@ unused_is p h =
       matched = matched.1 i;
       next_idx = next.1 i;
       state = probe_is p.state state.1 i;
-      paused = not_true p.paused flags.0 i;
+      paused = not-true p.paused flags.0 i;
       pending_snapshot = snapshot.1 i;
       pending_request_snapshot = request.1 i;
-      recent_active = not_true p.recent_active flags.1 i;
+      recent_active = not-true p.recent_active flags.1 i;
       max_inflight = inflight.1 i;
       commit_group_id = group.1 i;
       committed_index = committed.1 i;

@@ -1,4 +1,6 @@
 // The progress of one box, as its leader has it: src/tracker/progress.rs and src/tracker/state.rs.
+#![tactic(auto)]
+
 ghost use Rattle.std.specs.Prelude.{◌≡◌};
 ghost use Rattle.progress.specs.Record.{fresh_record, unused_record, is_probe, is_unused};
 
@@ -79,6 +81,7 @@ impl Progress {
     }
 
     // Whether it is the record of an unused place.
+    #[tactic(auto, unfolding(crate::specs::Record::is_unused))]
     pub fn is_unused(self) -> bool
         ensures { result ≡ is_unused self }
     {

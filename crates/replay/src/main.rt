@@ -1,5 +1,7 @@
 // Reads a script from standard input and prints its listing, in blocks of lines; `too long` alone for more than 65,536 bytes. The turns and the lines are
 // those of crate listing.
+#![tactic(auto)]
+
 use libc::{STDIN_FILENO, STDOUT_FILENO};
 
 // A block of lines. It is written out where it may have no room for a line more: no line is longer than 11,520 bytes (`line-size`, crates/listing/proofs).

@@ -4,7 +4,7 @@ use mathlib.Core.Path.{◌≡◌, refl, ap, ◌∙◌, sym}
 use mathlib.Core.Bool.{Bool, true, false, ◌||◌, not}
 use mathlib.Core.List.{List, [], ◌∷◌, ◌++◌}
 use native.Mathlib.Omega.{arith}
-use borrow.Author.Tests.{eq-eqb, ne_eqb, le_leb, le-ltb, lt-ltb, ltb-false, not_true, not_false}
+use borrow.Author.Tests.{eq-eqb, ne_eqb, le-leb, le-ltb, lt-ltb, ltb-false, not-true, not-false}
 use lib.Dec.{ltb}
 use lib.ListN.{length, take, length-take}
 use Rattle.rules.specs.Ids.{is_empty}
@@ -165,7 +165,7 @@ some-taken (suc n) [] h s = absurd (omega arith)
 some-taken (suc n) (x ∷ l) h s = refl
 
 fits : (l : IdList) → l.len ≤ 64 → short (entries_in l) ≡ true
-fits l n = le_leb (length (entries_in l)) 64 (omega (arith, length-take l.len l.ids))
+fits l n = le-leb (length (entries_in l)) 64 (omega (arith, length-take l.len l.ids))
 
 -- 1 and 2 are passed
 module _ (t : Tracker) (w : tracker_well_formed t ≡ true) (cs : ConfState) (f : too_long cs ≡ false) (next : ℕ) where
@@ -199,7 +199,7 @@ module _ (t : Tracker) (cs : ConfState) (next : ℕ) {o : Outcome} where
 
 -- what the test of the state tells
 pub well : (t : Tracker) {b : Bool} → b ≡ not (tracker_well_formed t) → b ≡ false → tracker_well_formed t ≡ true
-well t e h = not_false (tracker_well_formed t) (sym e ∙ h)
+well t e h = not-false (tracker_well_formed t) (sym e ∙ h)
 
 pub ill : (t : Tracker) {b : Bool} → b ≡ not (tracker_well_formed t) → b ≡ true → tracker_well_formed t ≡ false
-ill t e h = not_true (tracker_well_formed t) (sym e ∙ h)
+ill t e h = not-true (tracker_well_formed t) (sym e ∙ h)

@@ -7,8 +7,8 @@ use native.Mathlib.Numerals.{add-one}
 use native.Mathlib.Omega.{arith}
 use borrow.Author.Tests.{eq-eqb, le-ltb}
 use lib.Dec.{ltb}
-use lib.ListN.{length, take, get_or, set, replicate, length_append, length-take, length-set, replicate-append-replicate}
-use lib.Seq.{length_take_le, take-suc, take-suc-set}
+use lib.ListN.{length, take, get_or, set, replicate, length-append, length-take, length-set, replicate-append-replicate}
+use lib.Seq.{length-take-le, take-suc, take-suc-set}
 use Rattle.rules.specs.State.{Change, addLearner, addNode, removeNode}
 use Rattle.rules.specs.Answers.{Verdict, each, ok, refuse, ◌▸◌}
 use Rattle.rules.specs.Calls.{kind_of, list_of, readable}
@@ -54,7 +54,7 @@ list_append (x ∷ xs) (k ∷ ks) ys js h = ap (λ (cs : List Change). record { 
 reads_append : {xs ks ys js : List ℕ} {cs ds : List Change} → Reads xs ks cs → Reads ys js ds → Reads (xs ++ ys) (ks ++ js) (cs ++ ds)
 reads_append {xs} {ks} {ys} {js} r q =
     record {
-      same = rw (length_append xs ys, length_append ks js) (omega (arith, r.same, q.same));
+      same = rw (length-append xs ys, length-append ks js) (omega (arith, r.same, q.same));
       low = known_append ks js r.low q.low;
       says = rw (list_append xs ks ys js r.same, r.says, q.says);
     }
@@ -132,7 +132,7 @@ module _ {c₀ c : Changes} {l : IdList} {k i : ℕ} (s : Appending c₀ l k c i
   pub appending_end : l.len ≤ i → Appended c₀ l k c
   appending_end h =
       let e : i ≡ l.len = omega (arith, s.within) in
-      let n : length (entries_in l) ≡ l.len = length_take_le l.len l.ids s.held in
+      let n : length (entries_in l) ≡ l.len = length-take-le l.len l.ids s.held in
       record {
         count = omega (arith, s.count);
         ids = s.ids ∙ rw e;

@@ -3,7 +3,7 @@ use Prim.Native.Nat.{ℕ}
 use mathlib.Core.Path.{◌≡◌}
 use mathlib.Core.Bool.{true, false}
 use native.Mathlib.Omega.{arith}
-use borrow.Author.Tests.{ltb_true, ne_eqb}
+use borrow.Author.Tests.{ltb-true, ne_eqb}
 use lib.Dec.{eqb, ltb}
 use Rattle.rules.specs.State.{State}
 use Rattle.rules.specs.Answers.{Answer, Verdict}
@@ -20,7 +20,7 @@ abbrev pub Answered : Answer → Type 0
 Answered a = NumberedAnswer NotZero a
 
 over : (k n : ℕ) → ltb k n ≡ true → NotZero n
-over k n h = ne_eqb n 0 (λ e. omega (arith, ltb_true k n h))
+over k n h = ne_eqb n 0 (λ e. omega (arith, ltb-true k n h))
 
 pub asked-answered : (s : State) (p : Step) → Answered (ask s p)
 asked-answered = asked-numbered NotZero (check-numbered NotZero (over 6)) (λ n h e. over 3 n h)

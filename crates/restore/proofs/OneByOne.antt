@@ -5,7 +5,7 @@ use mathlib.Core.Bool.{true}
 use mathlib.Core.List.{List, [], ◌∷◌}
 use native.Mathlib.Numerals.{add-one}
 use native.Mathlib.Omega.{arith}
-use lib.ListN.{length, take, drop, get_or, length-take, drop_of_length_le}
+use lib.ListN.{length, take, drop, get_or, length-take, drop_of_length-le}
 use lib.Seq.{drop-cons, get_or-take}
 use Rattle.rules.specs.Calls.{kind_of}
 use Rattle.rules.specs.Restore.{Step, all, one_by_one, run}
@@ -27,7 +27,7 @@ module _ (n : ℕ) (l : List ℕ) (i : ℕ) where
       rw (add-one, drop-cons (take n l) i d, get_or-take n l i d)
 
   left_end : length (take n l) ≤ i → drop i (take n l) ≡ []
-  left_end k = drop_of_length_le (take n l) k
+  left_end k = drop_of_length-le (take n l) k
 
 -- one by one, each of this kind
 abbrev pub steps_for : ℕ → List ℕ → List Step

@@ -1,5 +1,7 @@
 // `restore` of src/confchange/restore.rs: the configuration that a `ConfState` describes, one step after the other. Here `restore` is whole, and the
 // Rust's is `restore_step_by_step`: document 02, g).
+#![tactic(auto)]
+
 ghost use Rattle.std.specs.Prelude.{◌≡◌, true, false, [], ◌∷◌, ◌≤◌};
 ghost use Rattle.rules.specs.Calls.{kind_of};
 ghost use Rattle.rules.specs.Restore.{all, enter_step, one_by_one, wanted};

@@ -4,7 +4,7 @@ use mathlib.Core.Path.{◌≡◌, refl, ap, ◌∙◌, sym, fun_ext}
 use mathlib.Core.Bool.{Bool, true, false, ◌&&◌, ◌||◌, not, cond, false≢true}
 use mathlib.Core.List.{List, [], ◌∷◌, ◌++◌}
 use native.Mathlib.Omega.{arith}
-use borrow.Author.Tests.{ne_eqb, eqb-true, lt-leb, not_true}
+use borrow.Author.Tests.{ne_eqb, eqb-true, lt-leb, not-true}
 use lib.Dec.{eqb, leb}
 use lib.ListN.{length}
 use Rattle.progress.specs.Record.{fresh_record}
@@ -54,8 +54,8 @@ passes_sound c ps s q =
       incoming-tracked = λ y. apply (i y) (t y) (and_left (a1 y) (a2 y) (h2 y));
       outgoing-tracked = λ y. apply (o y) (t y) (and_right (a1 y) (a2 y) (h2 y));
       learner-tracked = λ y. apply (l y) (t y) (and_right (a1 y && a2 y) (a3 y) (h3 y));
-      learner-not-outgoing = λ y m. not_true (o y) (apply (l y) (not (o y)) (and_right (a1 y && a2 y && a3 y && a4 y) (a5 y) (h5 y)) m);
-      learner-not-incoming = λ y m. not_true (i y) (apply (l y) (not (i y)) (and_right (a1 y && a2 y && a3 y && a4 y && a5 y) (a6 y) (h6 y)) m);
+      learner-not-outgoing = λ y m. not-true (o y) (apply (l y) (not (o y)) (and_right (a1 y && a2 y && a3 y && a4 y) (a5 y) (h5 y)) m);
+      learner-not-incoming = λ y m. not-true (i y) (apply (l y) (not (i y)) (and_right (a1 y && a2 y && a3 y && a4 y && a5 y) (a6 y) (h6 y)) m);
       staged-tracked = λ y. apply (g y) (t y) (and_right (a1 y && a2 y && a3 y) (a4 y) (h4 y));
       staged-outgoing = λ y. apply (g y) (o y) (and_right (a1 y && a2 y && a3 y && a4 y && a5 y && a6 y) (a7 y) (h7 y));
       single_quiet = q;

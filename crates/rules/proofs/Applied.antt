@@ -3,7 +3,7 @@ use Prim.Native.Nat.{ℕ, ◌≤◌}
 use mathlib.Core.Path.{◌≡◌, ap, ◌∙◌, sym, fun_ext}
 use mathlib.Core.Bool.{true, false}
 use mathlib.Core.List.{List}
-use borrow.Author.Tests.{le_leb}
+use borrow.Author.Tests.{le-leb}
 use lib.ListN.{length}
 use Rattle.progress.specs.declared.Progress.{Progress}
 use Rattle.progress.specs.Record.{fresh_record}
@@ -58,7 +58,7 @@ any_applied s f n p h c log e =
     record {
       fits = inside;
       short = d.short;
-      done = rw (f, inside, le_leb (length log) 256 d.short, d.fits);
+      done = rw (f, inside, le-leb (length log) 256 d.short, d.fits);
       formed-after = of-whole (applied s c log n) (record { sets = sets_of c inside; tracked = record { rises = d.sound.ids↑; few = few } });
     }
   where

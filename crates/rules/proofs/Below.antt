@@ -3,7 +3,7 @@ use Prim.Native.Nat.{ℕ, ◌+◌, ◌-◌, ◌/◌, ◌%◌, ◌^◌, ◌<◌}
 use mathlib.Core.Path.{◌≡◌, refl, subst}
 use mathlib.Core.Bool.{Bool, true, false, cond}
 use mathlib.Core.List.{List, [], ◌∷◌, ◌++◌}
-use borrow.Author.Tests.{ltb_true}
+use borrow.Author.Tests.{ltb-true}
 use lib.Dec.{eqb, leb, ltb}
 use lib.ListN.{length, take, drop}
 use Rattle.rules.specs.State.{ConfState}
@@ -30,7 +30,7 @@ BelowFound = InFound (λ v. v < 2 ^ 64)
 below-judged : (f : Front) → BelowFound (judged f)
 unfolding fits
 below-judged cut = tt
-below-judged (num v n) = in_cond (λ w. w < 2 ^ 64) (fits v n) v n 29 (λ t. ltb_true v (2 ^ 64) (and_right (leb n 10) (ltb v (2 ^ 64)) t))
+below-judged (num v n) = in_cond (λ w. w < 2 ^ 64) (fits v n) v n 29 (λ t. ltb-true v (2 ^ 64) (and_right (leb n 10) (ltb v (2 ^ 64)) t))
 
 below-varint : (l : List ℕ) → BelowFound (varint_in l)
 unfolding varint_in

@@ -6,7 +6,7 @@ use mathlib.Core.List.{List, [], ◌∷◌, ◌++◌, append-nil}
 use native.Mathlib.Omega.{arith}
 use borrow.Author.Tests.{eq-eqb, ne_eqb, eqb-true, eqb-false, leb-false}
 use lib.Dec.{eqb, leb}
-use lib.ListN.{length, length_append}
+use lib.ListN.{length, length-append}
 use Rattle.progress.specs.declared.Progress.{Progress}
 use Rattle.rules.specs.Ids.{ascending, insert_id, memb, remove_id}
 use Rattle.rules.specs.State.{Change, Conf, Entry, Peer, add, ids, remove}
@@ -163,7 +163,7 @@ module _ (r : Progress) (ps : List Peer) (up : ascending (ids ps) ≡ true) wher
           boxes = λ y. rw (peers, named c.id y e) (box_changed r c.id c.kind w.conf (now w) f.sound here stands_here y);
           outgoing = refl;
           auto = refl;
-          short = omega (arith, length_append w.log es, l.one);
+          short = omega (arith, length-append w.log es, l.one);
         })
       where
         es : List Entry

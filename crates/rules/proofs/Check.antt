@@ -4,14 +4,14 @@ use mathlib.Core.Path.{◌≡◌, refl, ap, ◌∙◌, sym}
 use mathlib.Core.Bool.{Bool, true, false, ◌&&◌, ◌||◌, not, true≢false, false≢true}
 use mathlib.Core.List.{List, [], ◌∷◌}
 use native.Mathlib.Omega.{arith}
-use borrow.Author.Tests.{eqb-true, not_false}
+use borrow.Author.Tests.{eqb-true, not-false}
 use lib.Dec.{eqb}
 use Rattle.rules.specs.Ids.{insert_all, is_empty, memb}
 use Rattle.rules.specs.State.{Conf}
 use Rattle.rules.specs.Answers.{Verdict, ◌▸◌, each, fault, ok, refuse}
 use Rattle.rules.specs.Check.{check, joint}
 use Rattle.rules.specs.Table.{places, places_in, places_of, standing_in}
-use Rattle.rules.proofs.Sets.{empty_none, memb-all, memb_head, or_true}
+use Rattle.rules.proofs.Sets.{empty_none, memb-all, memb_head, or-true}
 
 pub then_left : (u v : Verdict) → u ▸ v ≡ ok → u ≡ ok
 then_left ok v h = refl
@@ -40,7 +40,7 @@ each-ok f (y ∷ ys) h x m = go (eqb y x) refl m (each-ok f ys (then_right (f y)
 pub ok-each : (f : ℕ → Verdict) (xs : List ℕ) → ((x : ℕ) → memb x xs ≡ true → f x ≡ ok) → each f xs ≡ ok
 unfolding each memb
 ok-each f [] h = refl
-ok-each f (y ∷ ys) h = then_both (f y) (each f ys) (h y (memb_head y ys)) (ok-each f ys (λ x m. h x (or_true (eqb y x) (memb x ys) m)))
+ok-each f (y ∷ ys) h = then_both (f y) (each f ys) (h y (memb_head y ys)) (ok-each f ys (λ x m. h x (or-true (eqb y x) (memb x ys) m)))
 
 -- what holds where the check finds no fault
 pub record Passes (t : ℕ → Bool) (c : Conf) : Type 0 where
@@ -76,19 +76,19 @@ module _ (t : ℕ → Bool) (c : Conf) where
       let h2 : each stage c.staged ▸ empty ▸ quiet ≡ ok = then_right (each learner c.learners) (each stage c.staged ▸ empty ▸ quiet) h1 in
       let h3 : empty ▸ quiet ≡ ok = then_right (each stage c.staged) (empty ▸ quiet) h2 in
       let v : (x : ℕ) → memb x (insert_all c.incoming c.outgoing) ≡ true → t x ≡ true
-      = λ x m. not_false (t x) (refuse-ok (not (t x)) 7 x (each-ok (λ y. refuse (not (t y)) 7 y) (insert_all c.incoming c.outgoing) (then_left voters (each learner c.learners ▸ each stage c.staged ▸ empty ▸ quiet) h) x m)) in
+      = λ x m. not-false (t x) (refuse-ok (not (t x)) 7 x (each-ok (λ y. refuse (not (t y)) 7 y) (insert_all c.incoming c.outgoing) (then_left voters (each learner c.learners ▸ each stage c.staged ▸ empty ▸ quiet) h) x m)) in
       let l : (x : ℕ) → memb x c.learners ≡ true → learner x ≡ ok = each-ok learner c.learners (then_left (each learner c.learners) (each stage c.staged ▸ empty ▸ quiet) h1) in
       let l2 : (x : ℕ) → memb x c.learners ≡ true → refuse (memb x c.outgoing) 9 x ▸ refuse (memb x c.incoming) 10 x ≡ ok
       = λ x m. then_right (refuse (not (t x)) 8 x) (refuse (memb x c.outgoing) 9 x ▸ refuse (memb x c.incoming) 10 x) (l x m) in
       let g : (x : ℕ) → memb x c.staged ≡ true → stage x ≡ ok = each-ok stage c.staged (then_left (each stage c.staged) (empty ▸ quiet) h2) in
       record {
         incoming-tracked = λ x m. v x (memb-all x c.incoming c.outgoing ∙ rw m);
-        outgoing-tracked = λ x m. v x (memb-all x c.incoming c.outgoing ∙ or_true (memb x c.incoming) (memb x c.outgoing) m);
-        learner-tracked = λ x m. not_false (t x) (refuse-ok (not (t x)) 8 x (then_left (refuse (not (t x)) 8 x) (refuse (memb x c.outgoing) 9 x ▸ refuse (memb x c.incoming) 10 x) (l x m)));
+        outgoing-tracked = λ x m. v x (memb-all x c.incoming c.outgoing ∙ or-true (memb x c.incoming) (memb x c.outgoing) m);
+        learner-tracked = λ x m. not-false (t x) (refuse-ok (not (t x)) 8 x (then_left (refuse (not (t x)) 8 x) (refuse (memb x c.outgoing) 9 x ▸ refuse (memb x c.incoming) 10 x) (l x m)));
         learner-not-outgoing = λ x m. refuse-ok (memb x c.outgoing) 9 x (then_left (refuse (memb x c.outgoing) 9 x) (refuse (memb x c.incoming) 10 x) (l2 x m));
         learner-not-incoming = λ x m. refuse-ok (memb x c.incoming) 10 x (then_right (refuse (memb x c.outgoing) 9 x) (refuse (memb x c.incoming) 10 x) (l2 x m));
-        staged-tracked = λ x m. not_false (t x) (refuse-ok (not (t x)) 11 x (then_left (refuse (not (t x)) 11 x) (refuse (not (memb x c.outgoing)) 12 x) (g x m)));
-        staged-outgoing = λ x m. not_false (memb x c.outgoing) (refuse-ok (not (memb x c.outgoing)) 12 x (then_right (refuse (not (t x)) 11 x) (refuse (not (memb x c.outgoing)) 12 x) (g x m)));
+        staged-tracked = λ x m. not-false (t x) (refuse-ok (not (t x)) 11 x (then_left (refuse (not (t x)) 11 x) (refuse (not (memb x c.outgoing)) 12 x) (g x m)));
+        staged-outgoing = λ x m. not-false (memb x c.outgoing) (refuse-ok (not (memb x c.outgoing)) 12 x (then_right (refuse (not (t x)) 11 x) (refuse (not (memb x c.outgoing)) 12 x) (g x m)));
         single_quiet = refuse-ok (not (joint c) && c.auto_leave) 14 0 (then_right empty quiet h3);
       }
 
@@ -144,7 +144,7 @@ Apart c = (x : ℕ) → memb x c.staged ≡ true → memb x c.incoming ≡ false
 
 -- where nothing is outgoing nothing is staged
 pub single-apart : (t : ℕ → Bool) (c : Conf) → Passes t c → joint c ≡ false → Apart c
-single-apart t c p j x m = absurd (false≢true (sym (empty_none c.outgoing (not_false (is_empty c.outgoing) j) x) ∙ p.staged-outgoing x m))
+single-apart t c p j x m = absurd (false≢true (sym (empty_none c.outgoing (not-false (is_empty c.outgoing) j) x) ∙ p.staged-outgoing x m))
 
 pub stands_of : (t : ℕ → Bool) (c : Conf) → Passes t c → Apart c → (x : ℕ) → places_in (t x) c x ≡ places_of (standing_in (places_in (t x) c x))
 stands_of t c p a x =

@@ -4,9 +4,9 @@ use mathlib.Core.Path.{◌≡◌, refl, ap, ◌∙◌, subst, sym}
 use mathlib.Core.Bool.{Bool, true, false, ◌&&◌, ◌||◌, not, cond}
 use mathlib.Core.List.{List, [], ◌∷◌, ◌++◌, append-nil}
 use native.Mathlib.Omega.{arith}
-use borrow.Author.Tests.{leb-true, ltb-false, not_false}
+use borrow.Author.Tests.{leb-true, ltb-false, not-false}
 use lib.Dec.{eqb, ltb}
-use lib.ListN.{length, length_append}
+use lib.ListN.{length, length-append}
 use Rattle.progress.specs.Record.{fresh_record}
 use Rattle.progress.specs.declared.Progress.{Progress}
 use Rattle.rules.specs.Ids.{is_empty}
@@ -80,7 +80,7 @@ restore-short s cs h = go (is_empty cs.voters_outgoing)
     g = short cs.learners_next
 
     fit : v && l && o && g ≡ true
-    fit = not_false (v && l && o && g) (refuse-ok (not (v && l && o && g)) 2 0 (then_right (refuse (not (formed s)) 1 0) (refuse (not (v && l && o && g)) 2 0) h))
+    fit = not-false (v && l && o && g) (refuse-ok (not (v && l && o && g)) 2 0 (then_right (refuse (not (formed s)) 1 0) (refuse (not (v && l && o && g)) 2 0) h))
 
     vlo : v && l && o ≡ true
     vlo = and_left (v && l && o) g fit
@@ -94,7 +94,7 @@ restore-short s cs h = go (is_empty cs.voters_outgoing)
         let nl : length cs.learners ≤ 64 = leb-true (length cs.learners) 64 (and_right v l vl) in
         let no' : length cs.voters_outgoing ≤ 64 = leb-true (length cs.voters_outgoing) 64 (and_right (v && l) o vlo) in
         let ng : length cs.learners_next ≤ 64 = leb-true (length cs.learners_next) 64 (and_right (v && l && o) g fit) in
-        simp (length_append, length-of) (omega arith)
+        simp (length-append, length-of) (omega arith)
 
     go : (b : Bool) → all_short (cond b (one_by_one (wanted cs)) (one_by_one (all addNode cs.voters_outgoing) ++ (enter_step cs.auto_leave (all removeNode cs.voters_outgoing ++ wanted cs) ∷ [])))
     go true = one_only (wanted cs)
@@ -112,7 +112,7 @@ module _ (s : State) (c : Conf) (log : List Entry) where
   ill = refuse (not (formed s)) 1 0
 
   well_of : ill ≡ ok → formed s ≡ true
-  well_of h = not_false (formed s) (refuse-ok (not (formed s)) 1 0 h)
+  well_of h = not-false (formed s) (refuse-ok (not (formed s)) 1 0 h)
 
   -- a step that goes by a list
   listed : (xs ks : List ℕ) (p : Step) → (length (list_of xs ks) ≤ 256 → step_short p) → ill ▸ readable xs ks ⇒ ask s p ≡ accepted c log → Taken s p c log

@@ -3,7 +3,7 @@ use Prim.Native.Nat.{ℕ, ◌≤◌}
 use mathlib.Core.Path.{◌≡◌}
 use mathlib.Core.Bool.{Bool, true, ◌&&◌}
 use mathlib.Core.List.{List}
-use borrow.Author.Tests.{leb-true, le_leb}
+use borrow.Author.Tests.{leb-true, le-leb}
 use lib.Dec.{leb}
 use lib.ListN.{length}
 use Rattle.rules.specs.Ids.{ascending}
@@ -20,7 +20,7 @@ set-of xs h =
     record { rises = and_left (ascending xs) (leb (length xs) 64) h; few = leb-true (length xs) 64 (and_right (ascending xs) (leb (length xs) 64) h) }
 
 pub of-set : (xs : List ℕ) → Set xs → set_formed xs ≡ true
-of-set xs s = rw (s.rises, le_leb (length xs) 64 s.few)
+of-set xs s = rw (s.rises, le-leb (length xs) 64 s.few)
 
 pub record Sets (c : Conf) : Type 0 where
   pub incoming : Set c.incoming

@@ -5,9 +5,9 @@ use mathlib.Core.Path.{◌≡◌, refl, ap, ◌∙◌, sym}
 use mathlib.Core.Bool.{Bool, true, false, ◌&&◌, ◌||◌, not, cond}
 use mathlib.Core.List.{List, [], ◌∷◌, ◌++◌}
 use native.Mathlib.Omega.{arith}
-use borrow.Author.Tests.{eq-eqb, eqb-true, ne_eqb, not_false}
+use borrow.Author.Tests.{eq-eqb, eqb-true, ne_eqb, not-false}
 use lib.Dec.{eqb, ltb}
-use lib.ListN.{length, length_append}
+use lib.ListN.{length, length-append}
 use Rattle.progress.specs.Record.{fresh_record}
 use Rattle.progress.specs.declared.Progress.{Progress}
 use Rattle.rules.specs.Ids.{ascending}
@@ -103,10 +103,10 @@ module _ (r : Progress) (ps : List Peer) (up : ascending (ids ps) ≡ true) (c :
               ∙ ap (λ (t : Bool). (table (standing_in (places_in t w.conf c.id)) c.kind).0) (sym (tracked-now r ps up w c.id))
 
           longer : (e : Entry) → v.log ≡ w.log ++ (e ∷ []) → eqb (length v.log) (length w.log) ≡ false
-          longer e q = ne_eqb (length v.log) (length w.log) (λ p. let k : length v.log ≡ length w.log + 1 = ap length q ∙ length_append w.log (e ∷ []) in omega arith)
+          longer e q = ne_eqb (length v.log) (length w.log) (λ p. let k : length v.log ≡ length w.log + 1 = ap length q ∙ length-append w.log (e ∷ []) in omega arith)
 
           size : (f : Effect) → Logged f (ids ps) c.id (place c.id to.0 w.conf) w.log v → eqb (length v.log) (length w.log) ≡ logs_nothing f
-          size stays l = eq-eqb (length v.log) (length w.log) (ap (λ (u : Work). length u.log) (sym l.work) ∙ length_append w.log [] ∙ (omega arith))
+          size stays l = eq-eqb (length v.log) (length w.log) (ap (λ (u : Work). length u.log) (sym l.work) ∙ length-append w.log [] ∙ (omega arith))
           size adds l = longer (add c.id) (ap (λ (u : Work). u.log) (sym l.work))
           size removes l = longer (remove c.id) (ap (λ (u : Work). u.log) (sym l.work))
 
@@ -172,7 +172,7 @@ unfolding readable
 length-read xs ks h =
     let a : Bool = not (eqb (length xs) (length ks)) in
     let b : Bool = ltb 256 (length xs) in
-    length-same xs ks (eqb-true (length xs) (length ks) (not_false (eqb (length xs) (length ks)) (or_left a b (refuse-ok (a || b) 2 0 (then_left (refuse (a || b) 2 0) (each (λ k. refuse (ltb 2 k) 3 0) ks) h)))))
+    length-same xs ks (eqb-true (length xs) (length ks) (not-false (eqb (length xs) (length ks)) (or_left a b (refuse-ok (a || b) 2 0 (then_left (refuse (a || b) 2 0) (each (λ k. refuse (ltb 2 k) 3 0) ks) h)))))
 
 module _ (s : State) (xs ks : List ℕ) (c : Conf) (log : List Entry) where
   abbrev tests : Verdict
@@ -180,7 +180,7 @@ module _ (s : State) (xs ks : List ℕ) (c : Conf) (log : List Entry) where
 
   -- the tests were passed, and the list began on a state that passed the check
   begun : tests ≡ ok → check (is_tracked s) s.conf ≡ ok → joint s.conf ≡ false → Checked s
-  begun h k = single-checked s (not_false (formed s) (refuse-ok (not (formed s)) 1 0 (then_left (refuse (not (formed s)) 1 0) (readable xs ks) h))) k
+  begun h k = single-checked s (not-false (formed s) (refuse-ok (not (formed s)) 1 0 (then_left (refuse (not (formed s)) 1 0) (readable xs ks) h))) k
 
   as_long : tests ≡ ok → length (list_of xs ks) ≡ length xs
   as_long h = length-read xs ks (then_right (refuse (not (formed s)) 1 0) (readable xs ks) h)

@@ -4,9 +4,9 @@ use mathlib.Core.Path.{◌≡◌, refl, ap, sym, subst, ◌∙◌}
 use mathlib.Core.Bool.{Bool, true, false, cond}
 use mathlib.Core.List.{List, [], ◌∷◌, ◌++◌, append-nil}
 use native.Mathlib.Omega.{arith}
-use borrow.Author.Tests.{ltb_true, ltb-false, ne_eqb}
+use borrow.Author.Tests.{ltb-true, ltb-false, ne_eqb}
 use lib.Dec.{eqb, leb, ltb}
-use lib.ListN.{length, drop, length_append}
+use lib.ListN.{length, drop, length-append}
 use Rattle.rules.specs.State.{ConfState}
 use Rattle.rules.specs.Wire.{Front, cut, num, fits, Found, bad, found, Payload, varint, fixed, bytes, payload_in, numbered, held, tagged, judged, varint_in, field_in}
 use Rattle.rules.specs.Message.{Numbers, faulty, all, fronts, lower, before, gathered, packed, numbers, grown, refused, taken, with_voters, with_learners, with_outgoing, with_next, listed, flagged, entered}
@@ -25,7 +25,7 @@ lower-min : (e d : ℕ) → cond (ltb e d) e d ≡ min e d
 lower-min e d = by (ltb e d) refl
   where
     by : (t : Bool) → ltb e d ≡ t → cond t e d ≡ min e d
-    by true t = omega (arith, ltb_true e d t)
+    by true t = omega (arith, ltb-true e d t)
     by false t = omega (arith, ltb-false e d t)
 
 gathers_bad : (e : ℕ) → e ≤ 29 → (r : Numbers) (fs : List ℕ) (n : ℕ) → Gathers r fs n → Gathers (lower e r) (e ∷ fs) (suc n)
@@ -75,11 +75,11 @@ module _ (put : List ℕ → ConfState) (old : List ℕ) where
   packed_least (faulty e) (x ∷ xs) n h = least_longer e x xs (leb (length old + n) 64) h.0 h.1
   packed_least (all ys) fs n h =
       subst (λ (l : List ℕ). Least (listed put (grown old (all ys))) (l ++ length_faults (length old + n))) (sym h.0)
-      (grown_least ys (length old + n) (length_append old ys ∙ ap (λ (k : ℕ). length old + k) h.1))
+      (grown_least ys (length old + n) (length-append old ys ∙ ap (λ (k : ℕ). length old + k) h.1))
 
   list_least : (p : Payload) → Least (listed put (grown old (numbers p))) (list_faults (length old) p)
   unfolding packed
-  list_least (varint v) = grown_least (v ∷ []) (length old + 1) (length_append old (v ∷ []))
+  list_least (varint v) = grown_least (v ∷ []) (length old + 1) (length-append old (v ∷ []))
   list_least fixed = refl
   list_least (bytes l) = packed_least (gathered (fronts l)) (packed_faults (fronts l)) (length (fronts l)) (gathers (fronts l))
 

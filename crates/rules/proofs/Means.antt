@@ -4,7 +4,7 @@ use mathlib.Core.Path.{◌≡◌, refl, ◌∙◌}
 use mathlib.Core.Bool.{Bool, true, false, not}
 use mathlib.Core.List.{List}
 use native.Mathlib.Omega.{arith}
-use borrow.Author.Tests.{not_false}
+use borrow.Author.Tests.{not-false}
 use lib.Dec.{leb}
 use Rattle.rules.specs.Ids.{is_empty}
 use Rattle.rules.specs.State.{Conf, State, ids, Change, Entry}
@@ -157,7 +157,7 @@ module _ (s : State) (c : Conf) (log : List Entry) where
       let k : pre ≡ ok = given-ok c log pre (accepted (leaving s.conf) (removals (gone s.conf))) h in
       let k2 : passed ▸ second ≡ ok = then_right (refuse (not (joint s.conf)) 5 0) (passed ▸ second) k in
       record {
-        jointly = not_false (joint s.conf) (refuse-ok (not (joint s.conf)) 5 0 (then_left (refuse (not (joint s.conf)) 5 0) (passed ▸ second) k));
+        jointly = not-false (joint s.conf) (refuse-ok (not (joint s.conf)) 5 0 (then_left (refuse (not (joint s.conf)) 5 0) (passed ▸ second) k));
         checked = then_left passed second k2;
         again = then_right passed second k2;
         conf = cc;

@@ -4,10 +4,10 @@ use mathlib.Core.Path.{◌≡◌, refl, ap, sym, ◌∙◌}
 use mathlib.Core.Bool.{Bool, true, false}
 use mathlib.Core.List.{List, [], ◌∷◌, ◌++◌, append_assoc, append-nil}
 use native.Mathlib.Omega.{arith}
-use borrow.Author.Tests.{le_leb, lt-ltb, ltb_true, ltb-false, ne_eqb}
+use borrow.Author.Tests.{le-leb, lt-ltb, ltb-true, ltb-false, ne_eqb}
 use lib.Dec.{ltb}
-use lib.ListN.{length, length_append}
-use lib.Seq.{drop_append_seam, take-append_seam}
+use lib.ListN.{length, length-append}
+use lib.Seq.{drop-append_seam, take-append_seam}
 use Rattle.rules.specs.State.{ConfState, State, formed}
 use Rattle.rules.specs.Apply.{no_conf_state, to_conf_state}
 use Rattle.rules.specs.Wire.{found, Payload, varint, bytes, payload_in, Field, field_in, row, groups, varint_of, tag_of, length_field}
@@ -34,8 +34,8 @@ unfolding payload_in
 payload-length l rest h =
     rw (
       varint-back (length l) (l ++ rest) h,
-      le_leb (length l) (length (varint_of (length l) ++ (l ++ rest)) - length (varint_of (length l))) (simp length_append (omega arith)),
-      drop_append_seam (varint_of (length l)) (l ++ rest),
+      le-leb (length l) (length (varint_of (length l) ++ (l ++ rest)) - length (varint_of (length l))) (simp length-append (omega arith)),
+      drop-append_seam (varint_of (length l)) (l ++ rest),
       take-append_seam l rest,
     )
 
@@ -51,7 +51,7 @@ module _ (f : ℕ) (some : 0 < f) (below : f < 2 ^ 29) where
   tag_back w rest h e =
       rw (
         varint-back (8 * f + w) rest (omega arith),
-        drop_append_seam (tag_of f w) rest,
+        drop-append_seam (tag_of f w) rest,
         tag-number f w h,
         tag_type f w h,
         e,
@@ -65,15 +65,15 @@ module _ (f : ℕ) (some : 0 < f) (below : f < 2 ^ 29) where
       rw (
         append_assoc (tag_of f 2) (varint_of (length l) ++ l) rest,
         append_assoc (varint_of (length l)) l rest,
-        length_append (tag_of f 2) (varint_of (length l) ++ l),
-        length_append (varint_of (length l)) l,
+        length-append (tag_of f 2) (varint_of (length l) ++ l),
+        length-append (varint_of (length l)) l,
       )
       (tag_back 2 (varint_of (length l) ++ (l ++ rest)) (omega arith) (payload-length l rest h))
 
   pub varint-field-back : (v : ℕ) (rest : List ℕ) → v < 2 ^ 64
       → field_in ((tag_of f 0 ++ varint_of v) ++ rest) ≡ found (record { number = f; payload = varint v }) (length (tag_of f 0 ++ varint_of v))
   varint-field-back v rest h =
-      rw (append_assoc (tag_of f 0) (varint_of v) rest, length_append (tag_of f 0) (varint_of v))
+      rw (append_assoc (tag_of f 0) (varint_of v) rest, length-append (tag_of f 0) (varint_of v))
       (tag_back 0 (varint_of v ++ rest) (omega arith) (payload-varint v rest h))
 
 -- ** Fields one after the other
@@ -81,26 +81,26 @@ module _ (f : ℕ) (some : 0 < f) (below : f < 2 ^ 29) where
 read_next : (a rest : List ℕ) (m : ConfState) {f : Field} {n : ConfState} → field_in (a ++ rest) ≡ found f (length a) → entered f m ≡ taken n
     → read_row (row (a ++ rest)) m ≡ read_row (row rest) n
 unfolding read_row
-read_next a rest m e g = rw (row_first (a ++ rest) e, g, drop_append_seam a rest)
+read_next a rest m e g = rw (row_first (a ++ rest) e, g, drop-append_seam a rest)
 
 -- ** A list, where there was none
 
 module _ (m : ConfState) (xs : List ℕ) (few : length xs ≤ 64) (b : Below xs) where
   voters_in : m.voters ≡ [] → entered (record { number = 1; payload = bytes (packed_of xs) }) m ≡ taken (with_voters xs m)
   unfolding entered
-  voters_in e = rw (e, numbers-back xs b, le_leb (length xs) 64 few)
+  voters_in e = rw (e, numbers-back xs b, le-leb (length xs) 64 few)
 
   learners_in : m.learners ≡ [] → entered (record { number = 2; payload = bytes (packed_of xs) }) m ≡ taken (with_learners xs m)
   unfolding entered
-  learners_in e = rw (e, numbers-back xs b, le_leb (length xs) 64 few)
+  learners_in e = rw (e, numbers-back xs b, le-leb (length xs) 64 few)
 
   outgoing_in : m.voters_outgoing ≡ [] → entered (record { number = 3; payload = bytes (packed_of xs) }) m ≡ taken (with_outgoing xs m)
   unfolding entered
-  outgoing_in e = rw (e, numbers-back xs b, le_leb (length xs) 64 few)
+  outgoing_in e = rw (e, numbers-back xs b, le-leb (length xs) 64 few)
 
   next_in_lem : m.learners_next ≡ [] → entered (record { number = 4; payload = bytes (packed_of xs) }) m ≡ taken (with_next xs m)
   unfolding entered
-  next_in_lem e = rw (e, numbers-back xs b, le_leb (length xs) 64 few)
+  next_in_lem e = rw (e, numbers-back xs b, le-leb (length xs) 64 few)
 
 read_list : (m : ConfState) (f : ℕ) → 0 < f → f < 2 ^ 29 → (xs rest : List ℕ) {n : ConfState} → length xs ≤ 64
     → entered (record { number = f; payload = bytes (packed_of xs) }) m ≡ taken n → (xs ≡ [] → n ≡ m)
@@ -170,7 +170,7 @@ unfolding varint_of
 length_two n h = by (ltb n 128) refl
   where
     by : (t : Bool) → ltb n 128 ≡ t → length (groups 10 n) ≤ 2
-    by true t = rw (groups-one 9 n (ltb_true n 128 t)) (omega arith)
+    by true t = rw (groups-one 9 n (ltb-true n 128 t)) (omega arith)
     by false t = rw (groups-more 9 n (ltb-false n 128 t), groups-one 8 (n / 128) (omega arith)) (omega arith)
 
 list_length : (f : ℕ) (xs : List ℕ) → f < 16 → length xs ≤ 64 → length (list_field f xs) ≤ 643
@@ -179,8 +179,8 @@ list_length f [] h few = omega arith
 list_length f (x ∷ xs) h few =
     omega (
       arith,
-      length_append (tag_of f 2) (varint_of (length (packed_of (x ∷ xs))) ++ packed_of (x ∷ xs)),
-      length_append (varint_of (length (packed_of (x ∷ xs)))) (packed_of (x ∷ xs)),
+      length-append (tag_of f 2) (varint_of (length (packed_of (x ∷ xs))) ++ packed_of (x ∷ xs)),
+      length-append (varint_of (length (packed_of (x ∷ xs)))) (packed_of (x ∷ xs)),
       length-one (8 * f + 2) (omega arith),
       length_two (length (packed_of (x ∷ xs))) (omega (arith, packed-size (x ∷ xs))),
       packed-size (x ∷ xs),
@@ -189,12 +189,12 @@ list_length f (x ∷ xs) h few =
 flag-length : (b : Bool) → length (flag_field b) ≤ 2
 unfolding flag_field
 flag-length false = omega arith
-flag-length true = omega (arith, length_append (tag_of 5 0) (varint_of 1), length-one (8 * 5 + 0) (omega arith), length-one 1 (omega arith))
+flag-length true = omega (arith, length-append (tag_of 5 0) (varint_of 1), length-one (8 * 5 + 0) (omega arith), length-one 1 (omega arith))
 
 pub encoded-length : (m : ConfState) → Few64 m → length (encoded m) ≤ 2574
 unfolding encoded
 encoded-length m s =
-    simp length_append
+    simp length-append
     (omega (
       arith,
       list_length 1 m.voters (omega arith) s.voters,

@@ -4,9 +4,9 @@ use mathlib.Core.Path.{◌≡◌, refl, ap, sym, subst, ◌∙◌}
 use mathlib.Core.Bool.{Bool, true, false, cond}
 use mathlib.Core.List.{List, [], ◌∷◌, ◌++◌}
 use native.Mathlib.Omega.{arith}
-use borrow.Author.Tests.{le_leb, leb-true}
+use borrow.Author.Tests.{le-leb, leb-true}
 use lib.Dec.{eqb, leb, ltb}
-use lib.ListN.{length, take, drop, length-drop, length_append}
+use lib.ListN.{length, take, drop, length-drop, length-append}
 use lib.Seq.{take-append-le, drop-append-le}
 use Rattle.rules.specs.State.{ConfState}
 use Rattle.rules.specs.Apply.{no_conf_state}
@@ -64,7 +64,7 @@ kept_fixed : (n : ℕ) (l b : List ℕ) → Kept (fixed_in n l) (fixed_in n (l +
 kept_fixed n l b = by (leb n (length l)) refl
   where
     by : (t : Bool) → leb n (length l) ≡ t → Kept (cond t (found fixed n) (bad 28)) (fixed_in n (l ++ b))
-    by true t = rw (le_leb n (length (l ++ b)) (omega (arith, leb-true n (length l) t, length_append l b)))
+    by true t = rw (le-leb n (length (l ++ b)) (omega (arith, leb-true n (length l) t, length-append l b)))
     by false t = λ k. absurd (k refl)
 
 kept-length : (l b : List ℕ) (x y : Found ℕ) → varint_in l ≡ x → Kept x y → Kept (length_in l x) (length_in (l ++ b) y)
@@ -77,7 +77,7 @@ kept-length l b (found v n) y w h = by (leb v (length l - n)) refl
         let j : v ≤ length l - n = leb-true v (length l - n) t in
         rw (
           h,
-          le_leb v (length (l ++ b) - n) (omega (arith, length_append l b)),
+          le-leb v (length (l ++ b) - n) (omega (arith, length-append l b)),
           drop-append-le n l b i,
           take-append-le v (drop n l) b (omega (arith, length-drop n l)),
         )

@@ -4,7 +4,7 @@ use mathlib.Core.Path.{◌≡◌, refl, ap, ◌∙◌, sym, fun_ext}
 use mathlib.Core.Bool.{Bool, true, false, ◌&&◌, ◌||◌, not, cond, true≢false, false≢true}
 use mathlib.Core.List.{List, [], ◌∷◌}
 use native.Mathlib.Omega.{arith}
-use borrow.Author.Tests.{le_leb, not_true}
+use borrow.Author.Tests.{le-leb, not-true}
 use lib.Dec.{eqb}
 use lib.ListN.{length}
 use Rattle.progress.specs.Record.{fresh_record}
@@ -112,7 +112,7 @@ conf-formed c ps s p h =
 
 pub formed-of : (s : State) → Ordered s → formed s ≡ true
 unfolding formed
-formed-of s o = rw (conf-formed s.conf s.peers o.sound (passes_of (is_tracked s) s.conf o.checked) o.few, o.sound.ids↑, le_leb (length (ids s.peers)) 64 o.few)
+formed-of s o = rw (conf-formed s.conf s.peers o.sound (passes_of (is_tracked s) s.conf o.checked) o.few, o.sound.ids↑, le-leb (length (ids s.peers)) 64 o.few)
 
 -- ** An accepted answer is applied
 
@@ -132,7 +132,7 @@ module _ (s : State) (o : Ordered s) (n : ℕ) (p : Step) (c : Conf) (log : List
   pub apply-ok : apply_conf s c log n ≡ record { verdict = ok; state = applied s c log n }
   unfolding apply_conf log_formed
   apply-ok =
-      rw (formed-of s o, conf-formed c (enrol r log s.peers) d.sound (passes_of (λ y. memb y (ids (enrol r log s.peers))) c checked-now) few-now, le_leb (length log) 256 d.short, d.fits)
+      rw (formed-of s o, conf-formed c (enrol r log s.peers) d.sound (passes_of (λ y. memb y (ids (enrol r log s.peers))) c checked-now) few-now, le-leb (length log) 256 d.short, d.fits)
 
   pub apply-ordered : Ordered (applied s c log n)
   apply-ordered =
@@ -210,7 +210,7 @@ ordered_of s h =
     let h2 : formed s && passes (check (is_tracked s) c) ≡ true = and_left (formed s && passes (check (is_tracked s) c)) nowhere h3 in
     let f : formed s ≡ true = and_left (formed s) (passes (check (is_tracked s) c)) h2 in
     let k : check (is_tracked s) c ≡ ok = passes-ok (check (is_tracked s) c) (and_right (formed s) (passes (check (is_tracked s) c)) h2) in
-    let z : memb 0 xs ≡ false = not_true (memb 0 xs) (and_left (not (memb 0 xs)) (not (memb 0 (members c))) (and_right (formed s && passes (check (is_tracked s) c)) nowhere h3)) in
+    let z : memb 0 xs ≡ false = not-true (memb 0 xs) (and_left (not (memb 0 xs)) (not (memb 0 (members c))) (and_right (formed s && passes (check (is_tracked s) c)) nowhere h3)) in
     let e : xs ≡ members c = same-ids xs (members c) (and_right (formed s && passes (check (is_tracked s) c) && nowhere) (same_ids xs (members c)) h4) in
     let a : Apart c = of-apart c.staged c.incoming (and_right (formed s && passes (check (is_tracked s) c) && nowhere && same_ids xs (members c)) away h) in
     let w : Whole s = whole_of s f in

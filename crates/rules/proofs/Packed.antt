@@ -5,8 +5,8 @@ use mathlib.Core.Bool.{Bool, true, false, cond}
 use mathlib.Core.List.{List, [], ◌∷◌, ◌++◌}
 use native.Mathlib.Omega.{arith}
 use lib.Dec.{ltb}
-use lib.ListN.{length, drop, length_append}
-use lib.Seq.{drop_append_seam}
+use lib.ListN.{length, drop, length-append}
+use lib.Seq.{drop-append_seam}
 use Rattle.rules.specs.Wire.{Front, cut, num, more, front, found, judged, varint_of, groups}
 use Rattle.rules.specs.Message.{Below, faulty, all, carried, fronts, before, gathered, packed, packed_of}
 use Rattle.rules.proofs.Wire.{fits-yes, front-groups, varint-length}
@@ -59,7 +59,7 @@ packed-one : (x : ℕ) (rest : List ℕ) → x < 2 ^ 64 → packed (varint_of x 
 unfolding varint_of
 packed-one x rest h =
     packed-num (groups 10 x ++ rest) (front-groups 9 x rest (omega arith))
-    ∙ rw (fits-yes x (length (groups 10 x)) (varint-length x) h) (ap (λ (l : List ℕ). before (found x (length (groups 10 x))) (packed l)) (drop_append_seam (groups 10 x) rest))
+    ∙ rw (fits-yes x (length (groups 10 x)) (varint-length x) h) (ap (λ (l : List ℕ). before (found x (length (groups 10 x))) (packed l)) (drop-append_seam (groups 10 x) rest))
 
 pub numbers-back : (xs : List ℕ) → Below xs → packed (packed_of xs) ≡ all xs
 unfolding packed_of
@@ -70,4 +70,4 @@ numbers-back (x ∷ xs) h = packed-one x (packed_of xs) h.0 ∙ ap (before (foun
 pub packed-size : (xs : List ℕ) → length (packed_of xs) ≤ 10 * length xs
 unfolding packed_of
 packed-size [] = omega arith
-packed-size (x ∷ xs) = omega (arith, length_append (varint_of x) (packed_of xs), varint-length x, packed-size xs)
+packed-size (x ∷ xs) = omega (arith, length-append (varint_of x) (packed_of xs), varint-length x, packed-size xs)

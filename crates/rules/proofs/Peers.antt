@@ -4,7 +4,7 @@ use mathlib.Core.Path.{◌≡◌, refl, ap, ◌∙◌, sym}
 use mathlib.Core.Bool.{Bool, true, false, ◌||◌, cond, true≢false}
 use mathlib.Core.List.{List, [], ◌∷◌}
 use native.Mathlib.Omega.{arith}
-use borrow.Author.Tests.{ltb_true, eqb-true, eqb-false}
+use borrow.Author.Tests.{ltb-true, eqb-true, eqb-false}
 use lib.Dec.{eqb, ltb}
 use Rattle.progress.specs.declared.Progress.{Progress}
 use Rattle.rules.specs.Ids.{above, ascending, insert_id, memb, remove_id}
@@ -44,7 +44,7 @@ record_track x y r (p ∷ ps) = go (ltb p.id x) refl (eqb p.id x) refl (record_t
     go true l e q ih = rw ih (swap (eqb x y) refl (eqb p.id y) refl)
       where
         swap : (a : Bool) → eqb x y ≡ a → (c : Bool) → eqb p.id y ≡ c → cond c (found p.progress) (cond a (found r) (record_of y ps)) ≡ cond a (found r) (cond c (found p.progress) (record_of y ps))
-        swap true f true g = let z : p.id < p.id = omega (arith, eqb-true x y f, eqb-true p.id y g, ltb_true p.id x l) in absurd (omega arith)
+        swap true f true g = let z : p.id < p.id = omega (arith, eqb-true x y f, eqb-true p.id y g, ltb-true p.id x l) in absurd (omega arith)
         swap true f false g = refl
         swap false f true g = refl
         swap false f false g = refl

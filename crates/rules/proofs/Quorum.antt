@@ -4,7 +4,7 @@ use mathlib.Core.Path.{◌≡◌, refl, ap, ◌∙◌, sym}
 use mathlib.Core.Bool.{Bool, true, false, ◌&&◌, ◌||◌, not, cond, false≢true}
 use mathlib.Core.List.{List, [], ◌∷◌}
 use native.Mathlib.Omega.{arith}
-use borrow.Author.Tests.{leb-false, lt-ltb, ltb_true}
+use borrow.Author.Tests.{leb-false, lt-ltb, ltb-true}
 use lib.Dec.{eqb, leb}
 use lib.ListN.{length}
 use Rattle.rules.specs.Ids.{ascending, is_empty, memb, minus}
@@ -12,7 +12,7 @@ use Rattle.rules.specs.State.{Conf}
 use Rattle.rules.specs.Check.{joint}
 use Rattle.rules.specs.Calls.{difference}
 use Rattle.rules.specs.Quorum.{Group, InCommon, Neighbours, count, everyone, is_voter, more_than_half, quorum}
-use Rattle.rules.proofs.Sets.{and_left, and_right, ascending_ext, ascending-keep, keep, memb_head, memb-keep, minus-keep, or_true}
+use Rattle.rules.proofs.Sets.{and_left, and_right, ascending_ext, ascending-keep, keep, memb_head, memb-keep, minus-keep, or-true}
 use Rattle.rules.proofs.Near.{near_itself}
 
 -- ** Counting
@@ -60,7 +60,7 @@ overlap g h (x ∷ xs) k = go (g x) refl (h x) refl k (overlap g h xs)
   where
     further : Meeting g h xs xs → Meeting g h (x ∷ xs) (x ∷ xs)
     further m =
-        let here : memb m.box (x ∷ xs) ≡ true = or_true (eqb x m.box) (memb m.box xs) m.one in
+        let here : memb m.box (x ∷ xs) ≡ true = or-true (eqb x m.box) (memb m.box xs) m.one in
         record { box = m.box; first = m.first; second = m.second; one = here; other = here }
 
     go : (b : Bool) → g x ≡ b → (c : Bool) → h x ≡ c → suc (length xs) < cond b (suc (count g xs)) (count g xs) + cond c (suc (count h xs)) (count h xs)
@@ -117,8 +117,8 @@ meet g h xs ys a b d p q = go (overlap g h (common xs ys) covered)
           length_common ys xs,
           count_common g xs ys,
           count_common h ys xs,
-          ltb_true (length xs) (count g xs + count g xs) p,
-          ltb_true (length ys) (count h ys + count h ys) q,
+          ltb-true (length xs) (count g xs + count g xs) p,
+          ltb-true (length ys) (count h ys + count h ys) q,
         )
 
     go : Meeting g h (common xs ys) (common xs ys) → Meeting g h xs ys
@@ -152,7 +152,7 @@ unfolding quorum
 half-outgoing c j =
     record {
       most = λ g q. go (joint c) j (more_than_half g c.outgoing) (and_right (more_than_half g c.incoming) _ q);
-      voters = λ x m. or_true (memb x c.incoming) (memb x c.outgoing) m;
+      voters = λ x m. or-true (memb x c.incoming) (memb x c.outgoing) m;
     }
   where
     go : (b : Bool) → b ≡ true → (m : Bool) → not b || m ≡ true → m ≡ true

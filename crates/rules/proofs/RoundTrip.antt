@@ -5,9 +5,9 @@ use mathlib.Core.Path.{◌≡◌, refl, ap, ◌∙◌, sym}
 use mathlib.Core.Bool.{Bool, true, false, ◌&&◌, ◌||◌, not, cond, true≢false, false≢true}
 use mathlib.Core.List.{List, [], ◌∷◌, ◌++◌}
 use native.Mathlib.Omega.{arith}
-use borrow.Author.Tests.{ne_eqb, eqb-true, le_leb, not_true}
+use borrow.Author.Tests.{ne_eqb, eqb-true, le-leb, not-true}
 use lib.Dec.{eqb}
-use lib.ListN.{length, length_append}
+use lib.ListN.{length, length-append}
 use Rattle.progress.specs.Record.{fresh_record}
 use Rattle.progress.specs.declared.Progress.{Progress}
 use Rattle.rules.specs.Ids.{apart, ascending, insert_all, is_empty, memb, same_ids}
@@ -22,7 +22,7 @@ use Rattle.rules.specs.Restore.{Step, all, ask, enter_step, go_on, one_by_one, r
 use Rattle.rules.specs.Sequences.{Call, after_calls, deeds, perform, step_by_step_call}
 use Rattle.rules.specs.Boxes.{Box, Found, absent, box_of, change_box, enter_box, record_of}
 use Rattle.rules.specs.Demands.{ComesBack}
-use Rattle.rules.proofs.Sets.{ascending_ext, length_part, memb_head, or_true}
+use Rattle.rules.proofs.Sets.{ascending_ext, length_part, memb_head, or-true}
 use Rattle.rules.proofs.Plain.{changes_box}
 use Rattle.rules.proofs.Boxes.{Sound, box_at, spot}
 use Rattle.rules.proofs.Changes.{After, changes-done, now}
@@ -328,12 +328,12 @@ module _ (s : State) (o : Ordered s) (k : Reached s) (m n : ℕ) where
     inside_all : (i : Kind) (xs : List ℕ) → ((x : ℕ) → memb x xs ≡ true → memb x T ≡ true) → (ds : List Change) → inside r' u.peers up' T T↑ o.few ds → inside r' u.peers up' T T↑ o.few (all i xs ++ ds)
     unfolding all memb
     inside_all i [] h ds d = d
-    inside_all i (x ∷ xs) h ds d = (h x (memb_head x xs), inside_all i xs (λ y e. h y (or_true (eqb x y) (memb y xs) e)) ds d)
+    inside_all i (x ∷ xs) h ds d = (h x (memb_head x xs), inside_all i xs (λ y e. h y (or-true (eqb x y) (memb y xs) e)) ds d)
 
     inside_only : (i : Kind) (xs : List ℕ) → ((x : ℕ) → memb x xs ≡ true → memb x T ≡ true) → inside r' u.peers up' T T↑ o.few (all i xs)
     unfolding all memb
     inside_only i [] h = tt
-    inside_only i (x ∷ xs) h = (h x (memb_head x xs), inside_only i xs (λ y e. h y (or_true (eqb x y) (memb y xs) e)))
+    inside_only i (x ∷ xs) h = (h x (memb_head x xs), inside_only i xs (λ y e. h y (or-true (eqb x y) (memb y xs) e)))
 
     fit : (w : Work) × (changes (ids u.peers) cs (start (entering u.conf)) ≡ done w) × Within r' u.peers up' T T↑ o.few w
     unfolding lists enrol
@@ -363,7 +363,7 @@ module _ (s : State) (o : Ordered s) (k : Reached s) (m n : ℕ) where
     voters = not_both (is_empty inc) (λ e. true≢false (sym j ∙ ap joint (k e)))
 
     left : is_empty u.conf.incoming ≡ false
-    left = go (first out (not_true (is_empty out) j))
+    left = go (first out (not-true (is_empty out) j))
       where
         go : (q : ℕ) × (memb q out ≡ true) → is_empty u.conf.incoming ≡ false
         go q = memb-some q.0 u.conf.incoming (added_in out p.outgoing-tracked q.0 q.1)
@@ -389,7 +389,7 @@ module _ (s : State) (o : Ordered s) (k : Reached s) (m n : ℕ) where
         let nl : length lrn ≤ length T = length_part lrn T o.sound.learners↑ T↑ p.learner-tracked in
         let ng : length stg ≤ length T = length_part stg T o.sound.staged↑ T↑ p.staged-tracked in
         let nt : length T ≤ 64 = o.few in
-        simp (length_append, length-of) (omega arith)
+        simp (length-append, length-of) (omega arith)
 
     d : Stepped u r' (enter_step s.conf.auto_leave cs) (with_auto s.conf.auto_leave w.conf) w.log
     unfolding ask
@@ -421,7 +421,7 @@ module _ (s : State) (o : Ordered s) (k : Reached s) (m n : ℕ) where
       let no' : length out ≤ 64 = omega (arith, length_part out T o.sound.outgoing↑ T↑ p.outgoing-tracked) in
       let nl : length lrn ≤ 64 = omega (arith, length_part lrn T o.sound.learners↑ T↑ p.learner-tracked) in
       let ng : length stg ≤ 64 = omega (arith, length_part stg T o.sound.staged↑ T↑ p.staged-tracked) in
-      rw (formed-of f of, le_leb (length inc) 64 ni, le_leb (length out) 64 no', le_leb (length lrn) 64 nl, le_leb (length stg) 64 ng)
+      rw (formed-of f of, le-leb (length inc) 64 ni, le-leb (length out) 64 no', le-leb (length lrn) 64 nl, le-leb (length stg) 64 ng)
 
   runs : Same s (run n f (restore_steps lists))
   unfolding restore_steps lists

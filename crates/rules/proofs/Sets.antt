@@ -4,7 +4,7 @@ use mathlib.Core.Path.{◌≡◌, refl, ap, ◌∙◌, sym}
 use mathlib.Core.Bool.{Bool, true, false, ◌&&◌, ◌||◌, not, cond, true≢false, false≢true}
 use mathlib.Core.List.{List, [], ◌∷◌}
 use native.Mathlib.Omega.{arith}
-use borrow.Author.Tests.{eq-eqb, ne_eqb, lt-ltb, ltb_true, ltb-false, eqb-true, eqb-false, not_true}
+use borrow.Author.Tests.{eq-eqb, ne_eqb, lt-ltb, ltb-true, ltb-false, eqb-true, eqb-false, not-true}
 use lib.Dec.{eqb, ltb}
 use lib.ListN.{length}
 use Rattle.rules.specs.Ids.{above, apart, ascending, insert_all, insert_id, is_empty, memb, minus, remove_id, same_ids}
@@ -29,15 +29,15 @@ and_right false b h = absurd (false≢true h)
 pub and_both : (a b : Bool) → a ≡ true → b ≡ true → a && b ≡ true
 and_both a b p q = rw (p, q)
 
-pub or_true : (a b : Bool) → b ≡ true → a || b ≡ true
-or_true true b h = refl
-or_true false b h = h
+pub or-true : (a b : Bool) → b ≡ true → a || b ≡ true
+or-true true b h = refl
+or-true false b h = h
 
 pub above_none : (x p : ℕ) (xs : List ℕ) → above p xs ≡ true → x ≤ p → memb x xs ≡ false
 unfolding memb above
 above_none x p [] h k = refl
 above_none x p (y ∷ ys) h k =
-    let lt : p < y = ltb_true p y (and_left (ltb p y) (above y ys) h) in
+    let lt : p < y = ltb-true p y (and_left (ltb p y) (above y ys) h) in
     let ne : y ≡ x → ⊥ = omega arith in
     let le : x ≤ y = omega arith in
     rw (ne_eqb y x ne, above_none x y ys (and_right (ltb p y) (above y ys) h) le)
@@ -77,7 +77,7 @@ above_insert p x (z ∷ zs) a h =
   where
     go : (z < x → above z (insert_id x zs) ≡ true) → (b : Bool) → ltb z x ≡ b → (e : Bool) → eqb z x ≡ e
         → above p (cond b (z ∷ insert_id x zs) (cond e (z ∷ zs) (x ∷ z ∷ zs))) ≡ true
-    go ih true b e q = rw (and_left (ltb p z) (above z zs) a, ih (ltb_true z x b))
+    go ih true b e q = rw (and_left (ltb p z) (above z zs) a, ih (ltb-true z x b))
     go ih false b true q = a
     go ih false b false q =
         let le : x ≤ z = ltb-false z x b in
@@ -91,7 +91,7 @@ ascending_insert x [] a = refl
 ascending_insert x (z ∷ zs) a = go (ltb z x) refl (eqb z x) refl
   where
     go : (b : Bool) → ltb z x ≡ b → (e : Bool) → eqb z x ≡ e → ascending (cond b (z ∷ insert_id x zs) (cond e (z ∷ zs) (x ∷ z ∷ zs))) ≡ true
-    go true b e q = above_insert z x zs a (ltb_true z x b)
+    go true b e q = above_insert z x zs a (ltb-true z x b)
     go false b true q = a
     go false b false q =
         let le : x ≤ z = ltb-false z x b in
@@ -103,7 +103,7 @@ pub above_less : (p q : ℕ) (xs : List ℕ) → above q xs ≡ true → p ≤ q
 unfolding above
 above_less p q [] a h = refl
 above_less p q (z ∷ zs) a h =
-    let lt : q < z = ltb_true q z (and_left (ltb q z) (above z zs) a) in
+    let lt : q < z = ltb-true q z (and_left (ltb q z) (above z zs) a) in
     let k : p < z = omega arith in
     rw (lt-ltb p z k) (and_right (ltb q z) (above z zs) a)
 
@@ -114,7 +114,7 @@ above_remove p x (z ∷ zs) a = go (above_remove z x zs (and_right (ltb p z) (ab
   where
     go : above z (remove_id x zs) ≡ true → (e : Bool) → above p (cond e zs (z ∷ remove_id x zs)) ≡ true
     go ih true =
-        let lt : p < z = ltb_true p z (and_left (ltb p z) (above z zs) a) in
+        let lt : p < z = ltb-true p z (and_left (ltb p z) (above z zs) a) in
         above_less p z zs (and_right (ltb p z) (above z zs) a) (omega arith)
     go ih false = rw (and_left (ltb p z) (above z zs) a, ih)
 
@@ -163,7 +163,7 @@ insert_same x (z ∷ zs) a m = go (insert_same x zs (rising_tail z zs a)) (ltb z
   where
     go : (memb x zs ≡ true → insert_id x zs ≡ zs) → (b : Bool) → ltb z x ≡ b → (e : Bool) → eqb z x ≡ e → cond b (z ∷ insert_id x zs) (cond e (z ∷ zs) (x ∷ z ∷ zs)) ≡ z ∷ zs
     go ih true b e q =
-        let ne : z ≡ x → ⊥ = omega (arith, ltb_true z x b) in
+        let ne : z ≡ x → ⊥ = omega (arith, ltb-true z x b) in
         let k : memb x zs ≡ true = ap (λ (c : Bool). c || memb x zs) (sym (ne_eqb z x ne)) ∙ m in
         rw (ih k)
     go ih false b true q = refl
@@ -177,7 +177,7 @@ memb_head y ys = rw (eq-eqb y y refl)
 pub apart_of : (xs ys : List ℕ) → ((x : ℕ) → memb x xs ≡ true → memb x ys ≡ false) → apart xs ys ≡ true
 unfolding apart memb
 apart_of [] ys h = refl
-apart_of (x ∷ xs) ys h = rw (h x (memb_head x xs)) (apart_of xs ys (λ y m. h y (or_true (eqb x y) (memb y xs) m)))
+apart_of (x ∷ xs) ys h = rw (h x (memb_head x xs)) (apart_of xs ys (λ y m. h y (or-true (eqb x y) (memb y xs) m)))
 
 pub of-apart : (xs ys : List ℕ) → apart xs ys ≡ true → (x : ℕ) → memb x xs ≡ true → memb x ys ≡ false
 unfolding apart memb
@@ -185,7 +185,7 @@ of-apart [] ys h x m = absurd (false≢true m)
 of-apart (y ∷ xs) ys h x m = go (eqb y x) refl m (of-apart xs ys (and_right (not (memb y ys)) (apart xs ys) h) x)
   where
     go : (b : Bool) → eqb y x ≡ b → b || memb x xs ≡ true → (memb x xs ≡ true → memb x ys ≡ false) → memb x ys ≡ false
-    go true e m ih = ap (λ (z : ℕ). memb z ys) (sym (eqb-true y x e)) ∙ not_true (memb y ys) (and_left (not (memb y ys)) (apart xs ys) h)
+    go true e m ih = ap (λ (z : ℕ). memb z ys) (sym (eqb-true y x e)) ∙ not-true (memb y ys) (and_left (not (memb y ys)) (apart xs ys) h)
     go false e m ih = ih m
 
 pub memb-before : (x y : ℕ) (ys : List ℕ) → above y ys ≡ true → x < y → memb x (y ∷ ys) ≡ false
@@ -200,8 +200,8 @@ module _ (x y : ℕ) (xs ys : List ℕ) (a : above x xs ≡ true) (b : above y y
   same_head = go (ltb x y) refl (ltb y x) refl
     where
       go : (b : Bool) → ltb x y ≡ b → (c : Bool) → ltb y x ≡ c → x ≡ y
-      go true p c q = absurd (true≢false (sym (memb_head x xs) ∙ e x ∙ memb-before x y ys b (ltb_true x y p)))
-      go false p true q = absurd (true≢false (sym (memb_head y ys) ∙ sym (e y) ∙ memb-before y x xs a (ltb_true y x q)))
+      go true p c q = absurd (true≢false (sym (memb_head x xs) ∙ e x ∙ memb-before x y ys b (ltb-true x y p)))
+      go false p true q = absurd (true≢false (sym (memb_head y ys) ∙ sym (e y) ∙ memb-before y x xs a (ltb-true y x q)))
       go false p false q = omega (arith, ltb-false x y p, ltb-false y x q)
 
   same_tail : (z : ℕ) → memb z xs ≡ memb z ys
@@ -271,7 +271,7 @@ above-keep p q (x ∷ xs) a = go (p x) (above-keep p x xs (and_right (ltb q x) (
   where
     go : (b : Bool) → above x (keep p xs) ≡ true → above q (cond b (x ∷ keep p xs) (keep p xs)) ≡ true
     go true ih = rw (and_left (ltb q x) (above x xs) a, ih)
-    go false ih = above_less q x (keep p xs) ih (omega (arith, ltb_true q x (and_left (ltb q x) (above x xs) a)))
+    go false ih = above_less q x (keep p xs) ih (omega (arith, ltb-true q x (and_left (ltb q x) (above x xs) a)))
 
 pub ascending-keep : (p : ℕ → Bool) (xs : List ℕ) → ascending xs ≡ true → ascending (keep p xs) ≡ true
 unfolding ascending keep
@@ -337,7 +337,7 @@ length_part (x ∷ xs) ys a b h =
       where
         here : (e : Bool) → eqb x y ≡ e → not e && memb y ys ≡ true
         here true q = absurd (true≢false (sym m ∙ above_none y x xs a (omega (arith, eqb-true x y q))))
-        here false q = h y (or_true (eqb x y) (memb y xs) m)
+        here false q = h y (or-true (eqb x y) (memb y xs) m)
 
 pub length_insert_le : (x : ℕ) (xs : List ℕ) → length (insert_id x xs) ≤ length xs + 1
 unfolding insert_id

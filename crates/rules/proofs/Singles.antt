@@ -19,7 +19,7 @@ use Rattle.rules.specs.Calls.{difference, simple_of, start}
 use Rattle.rules.specs.Apply.{applied, enrol}
 use Rattle.rules.specs.Restore.{Step, all, ask, attempt, go_on, one_by_one, run, simple_step}
 use Rattle.rules.specs.Boxes.{Box, box_of, change_box}
-use Rattle.rules.proofs.Sets.{memb_head, or_left, or_right, or_true}
+use Rattle.rules.proofs.Sets.{memb_head, or_left, or_right, or-true}
 use Rattle.rules.proofs.Plain.{changes_box}
 use Rattle.rules.proofs.Boxes.{Sound, box_at}
 use Rattle.rules.proofs.Changes.{After, Fine, changes-done, named, now}
@@ -173,7 +173,7 @@ module _ (n : ℕ) (T : List ℕ) (T↑ : ascending T ≡ true) (T64 : length T 
 
   good_tail : (x : ℕ) (xs : List ℕ) → Good (x ∷ xs) → Good xs
   unfolding memb
-  good_tail x xs g y m = g y (or_true (eqb x y) (memb y xs) m)
+  good_tail x xs g y m = g y (or-true (eqb x y) (memb y xs) m)
 
   pub voters-run : (xs : List ℕ) → Good xs → (u : State) → Ordered u → joint u.conf ≡ false → ((y : ℕ) → memb y (ids u.peers) ≡ true → memb y T ≡ true)
       → Ran n T u (one_by_one (all addNode xs)) (all addNode xs)

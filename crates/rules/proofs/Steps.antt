@@ -4,7 +4,7 @@ use mathlib.Core.Path.{◌≡◌, refl, ap, ◌∙◌, sym}
 use mathlib.Core.Bool.{Bool, true, false, ◌&&◌, ◌||◌, not, cond, true≢false}
 use mathlib.Core.List.{List, [], ◌∷◌}
 use native.Mathlib.Omega.{arith}
-use borrow.Author.Tests.{not_false}
+use borrow.Author.Tests.{not-false}
 use lib.Dec.{eqb, leb}
 use lib.ListN.{length}
 use Rattle.progress.specs.declared.Progress.{Progress}
@@ -67,7 +67,7 @@ pub record Stepped (s : State) (r : Progress) (p : Step) (c : Conf) (log : List 
   pub neighbours : Neighbours s.conf c
 
 pub no_joint : (c : Conf) → joint c ≡ false → (x : ℕ) → memb x c.outgoing ≡ false
-no_joint c h x = empty_none c.outgoing (not_false (is_empty c.outgoing) h) x
+no_joint c h x = empty_none c.outgoing (not-false (is_empty c.outgoing) h) x
 
 -- ** Entering
 

@@ -4,7 +4,7 @@ use mathlib.Core.Path.{◌≡◌, refl, ap, ◌∙◌, sym}
 use mathlib.Core.Bool.{Bool, true, false, ◌||◌, ◌&&◌, not, cond}
 use mathlib.Core.List.{List, [], ◌∷◌}
 use native.Mathlib.Omega.{arith}
-use borrow.Author.Tests.{eqb-true, ltb_true, ne_eqb}
+use borrow.Author.Tests.{eqb-true, ltb-true, ne_eqb}
 use lib.Dec.{eqb, ltb, leb}
 use Rattle.progress.specs.Record.{fresh_record}
 use Rattle.progress.specs.declared.Progress.{Progress}
@@ -43,7 +43,7 @@ alone x (y ∷ z ∷ zs) a = go (eqb y x) refl
     go true e = rw (ne_eqb z x above_head)
       where
         above_head : z ≡ x → ⊥
-        above_head q = omega (arith, eqb-true y x e, ltb_true y z (and_left (ltb y z) (above z zs) a))
+        above_head q = omega (arith, eqb-true y x e, ltb-true y z (and_left (ltb y z) (above z zs) a))
     go false e = refl
 
 -- where 0 is not in a set, any id of it is another than 0

@@ -5,7 +5,7 @@ use mathlib.Core.Bool.{Bool, true, false, cond}
 use mathlib.Core.List.{List, [], ◌∷◌, ◌++◌}
 use native.Mathlib.Nat.{pow-suc, div-lt_iff_lt-mul, mod-add-div}
 use native.Mathlib.Omega.{arith}
-use borrow.Author.Tests.{lt-ltb, le-ltb, le_leb, ltb_true, ltb-false, leb-true}
+use borrow.Author.Tests.{lt-ltb, le-ltb, le-leb, ltb-true, ltb-false, leb-true}
 use lib.Dec.{eqb, leb, ltb}
 use lib.ListN.{length, take, drop, length-drop}
 use Rattle.rules.specs.Wire.{Front, cut, num, more, front, Found, bad, found, fits, judged, varint_in, Payload, varint, fixed, bytes, single, fixed_in, length_in, payload_in, Field, numbered, held, tagged, field_in, end, fault, next, row_of, row, groups, varint_of}
@@ -134,7 +134,7 @@ row_next k (b ∷ bs) p e = rw e
 
 pub fits-yes : (v n : ℕ) → n ≤ 10 → v < 2 ^ 64 → fits v n ≡ true
 unfolding fits
-fits-yes v n h k = rw (le_leb _ _ h, lt-ltb _ _ k)
+fits-yes v n h k = rw (le-leb _ _ h, lt-ltb _ _ k)
 
 pub groups-one : (k n : ℕ) → n < 128 → groups (suc k) n ≡ n ∷ []
 unfolding groups
@@ -156,7 +156,7 @@ front-groups (suc k) n rest h = go (front-groups k (n / 128) rest (groups_less k
     go : front (groups (suc k) (n / 128) ++ rest) ≡ num (n / 128) (length (groups (suc k) (n / 128))) → (t : Bool) → ltb n 128 ≡ t
         → front (groups (suc (suc k)) n ++ rest) ≡ num n (length (groups (suc (suc k)) n))
     go r true t =
-        let d : n < 128 = ltb_true n 128 t in
+        let d : n < 128 = ltb-true n 128 t in
         rw (groups-one (suc k) n d) (front-one n rest d)
     go r false t =
         let d : 128 ≤ n = ltb-false n 128 t in

@@ -1,6 +1,8 @@
 // internal: for the programs of this repository. What a program reads and writes: an input to its end, an output in full. What the system refuses is said
 // on standard error, in the system's own words. No contract can say what is read or written, so there is none that settles it: the work of a program is in
 // functions on slices.
+#![tactic(auto)]
+
 ghost use Rattle.std.specs.Prelude.{◌≡◌, ◌+◌, ◌≤◌, length};
 
 // What reading came to: how many bytes stand at the front of the buffer, and whether a read failed, which has then been said.

@@ -7,7 +7,7 @@ use native.Mathlib.Nat.{div-lt_iff_lt-mul, pow-suc}
 use native.Mathlib.Omega.{arith}
 use borrow.Author.Tests.{lt-ltb, le-ltb}
 use lib.Dec.{ltb}
-use lib.ListN.{length, length_append}
+use lib.ListN.{length, length-append}
 use Rattle.text.specs.Text.{digits, decimal}
 
 -- as many digits as hold the number are enough
@@ -42,7 +42,7 @@ digits-length (suc k) n = go (digits-length k (n / 10)) (ltb n 10)
   where
     go : length (digits k (n / 10)) ≤ k → (b : Bool) → length (cond b ((48 + n) ∷ []) (digits k (n / 10) ++ ((48 + n % 10) ∷ []))) ≤ suc k
     go h true = omega arith
-    go h false = omega (arith, length_append (digits k (n / 10)) ((48 + n % 10) ∷ []))
+    go h false = omega (arith, length-append (digits k (n / 10)) ((48 + n % 10) ∷ []))
 
 pub decimal-length : (n : ℕ) → length (decimal n) ≤ 20
 unfolding decimal

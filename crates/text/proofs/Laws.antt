@@ -5,7 +5,7 @@ use mathlib.Core.List.{List, [], ◌∷◌, ◌++◌, append_assoc}
 use native.Mathlib.Nat.{zero-add}
 use native.Mathlib.Numerals.{add-one}
 use native.Mathlib.Omega.{arith, min_cases}
-use lib.ListN.{length, set, length_append, take, drop, get_or, drop_of_length_le}
+use lib.ListN.{length, set, length-append, take, drop, get_or, drop_of_length-le}
 use lib.Seq.{sets, sets-eq, length-sets, set_out, drop-cons, take_all}
 use Rattle.text.specs.Text.{each, decimal, spaced, words}
 use Rattle.text.specs.Put.{Put, last}
@@ -38,7 +38,7 @@ put_out {l} {at} {b} h e = record { bytes = sym (set_out l at b h); end = e }
 pub put_then : {l m n x y : List ℕ} {at p q : ℕ} → length l ≤ last → Put l at x m p → Put m p y n q → Put l at (x ++ y) n q
 put_then {l} {m} {n} {x} {y} {at} {p} {q} h f g = record {
   bytes = g.bytes ∙ rw (f.bytes, f.end) (sets_then x y l at h);
-  end = omega (arith, f.end, g.end, length_append x y);
+  end = omega (arith, f.end, g.end, length-append x y);
 }
 
 pub put-length : {l x m : List ℕ} {at p : ℕ} → Put l at x m p → length m ≡ length l
@@ -74,7 +74,7 @@ rest_put {old} {text} {out} {x} {rest} {new} {at} {p} {q} r f = record {
   fits = r.fits;
   place = omega (arith, f.end);
   bytes = rw (f.bytes, f.end) (sets_then x rest out p (omega (arith, rest-length r, r.fits)) ∙ r.bytes);
-  end = omega (arith, r.end, f.end, length_append x rest);
+  end = omega (arith, r.end, f.end, length-append x rest);
 }
 
 pub rest_none : {old text out : List ℕ} {at p : ℕ} → Rest old at text out p [] → Put old at text out p
@@ -101,7 +101,7 @@ each_at f xs i d h = rw (drop-cons xs i d h, add-one)
 module _ {A : Type 0} {f : A → List ℕ} {xs : List A} {text old : List ℕ} {at : ℕ} {out : List ℕ} {p i : ℕ} (s : Passing f xs text old at out p i) where
   pub pass_end : length xs ≤ i → Put old at text out p
   unfolding each
-  pass_end h = rest_none (rw (drop_of_length_le xs h) at s.left)
+  pass_end h = rest_none (rw (drop_of_length-le xs h) at s.left)
 
   pub pass_length : length out ≡ length old
   pass_length = rest-length s.left

@@ -1,5 +1,7 @@
 // Text put into a lent slice: what does not fit there is counted and not written. Each function takes the place where its text begins and gives the
 // place where it ends; the same functions count, on a short slice, and write, on the real one.
+#![tactic(auto)]
+
 ghost use Rattle.std.specs.Prelude.{[], ◌∷◌, ◌≡◌, ◌+◌, ◌-◌, min};
 ghost use Rattle.text.specs.Text.{decimal, each, spaced, words, group};
 ghost use Rattle.text.specs.Put.{Put, last};

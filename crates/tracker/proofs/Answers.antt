@@ -2,7 +2,7 @@
 use Prim.Native.Nat.{◌≤◌, ◌<◌}
 use mathlib.Core.Path.{◌≡◌, ◌∙◌, sym}
 use mathlib.Core.Bool.{Bool, true, false, not}
-use borrow.Author.Tests.{eq-eqb, ne_eqb, le_leb, lt-leb, not_true, not_false}
+use borrow.Author.Tests.{eq-eqb, ne_eqb, le-leb, lt-leb, not-true, not-false}
 use lib.ListN.{length, drop}
 use Rattle.rules.specs.Apply.{no_conf_state, to_conf_state}
 use Rattle.idset.specs.Set.{well_formed}
@@ -24,10 +24,10 @@ use Rattle.tracker.proofs.Peers.{tracker_parts, tracker_formed}
 
 -- what a test by refusal tells
 pub passed : (w b : Bool) → b ≡ not w → b ≡ false → w ≡ true
-passed w b e f = not_false w (sym e ∙ f)
+passed w b e f = not-false w (sym e ∙ f)
 
 pub failed : (w b : Bool) → b ≡ not w → b ≡ true → w ≡ false
-failed w b e f = not_true w (sym e ∙ f)
+failed w b e f = not-true w (sym e ∙ f)
 
 -- ** Configuration
 
@@ -75,7 +75,7 @@ module _ (l : ChangeLog) (long : length l.entries ≡ 256) where
 
   pub log-rest : l.count ≤ 256 → (b : Bool) → b ≡ not (all_blank (drop l.count l.entries)) → b ≡ not (log_well_formed l)
   unfolding log_well_formed
-  log-rest h b e = rw (eq-eqb _ _ long, le_leb _ _ h, e)
+  log-rest h b e = rw (eq-eqb _ _ long, le-leb _ _ h, e)
 
 -- ** Tracker
 

@@ -6,8 +6,8 @@ use mathlib.Core.Bool.{Bool, true, false, ◌&&◌, not}
 use mathlib.Core.List.{List, [], ◌∷◌, ◌++◌}
 use native.Mathlib.Numerals.{add-one}
 use native.Mathlib.Omega.{arith}
-use borrow.Author.Tests.{not_true, not_false}
-use lib.ListN.{length, take, drop, get_or, replicate, length-drop, drop_of_length_le, take-append-drop}
+use borrow.Author.Tests.{not-true, not-false}
+use lib.ListN.{length, take, drop, get_or, replicate, length-drop, drop_of_length-le, take-append-drop}
 use lib.Seq.{drop_at, drop-cons}
 use Rattle.rules.proofs.Sets.{and_left, and_right}
 
@@ -26,14 +26,14 @@ module _ {A : Type 0} {p : A → Bool} {all : List A → Bool} (e : Each p all) 
   pub test_end : (m : ℕ) → length l ≡ m → m ≤ i → false ≡ not (all (drop n l))
   test_end m k h =
       let g : length l ≤ i = omega arith in
-      rw (s.same, drop_of_length_le l g, e.none)
+      rw (s.same, drop_of_length-le l g, e.none)
 
   module _ (h : i < length l) (d : A) (b : Bool) (q : b ≡ p (get_or l i d)) where
     pub test_not : not b ≡ true → true ≡ not (all (drop n l))
-    test_not f = rw (s.same, drop-cons l i d h, e.more, ← q, not_true b f)
+    test_not f = rw (s.same, drop-cons l i d h, e.more, ← q, not-true b f)
 
     pub test_next : not b ≡ false → Testing all n l (i + 1)
-    test_next f = record { same = s.same ∙ rw (drop-cons l i d h, e.more, ← q, not_false b f, add-one) }
+    test_next f = record { same = s.same ∙ rw (drop-cons l i d h, e.more, ← q, not-false b f, add-one) }
 
 -- ** A test for x: the places after the first n
 

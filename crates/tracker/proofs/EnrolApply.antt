@@ -2,7 +2,7 @@
 use Prim.Native.Nat.{ℕ}
 use mathlib.Core.Path.{◌≡◌, ap, ◌∙◌, sym}
 use mathlib.Core.Bool.{Bool, true, false, not}
-use borrow.Author.Tests.{not_true, not_false}
+use borrow.Author.Tests.{not-true, not-false}
 use Rattle.progress.specs.declared.Progress.{Progress}
 use Rattle.progress.specs.Record.{fresh_record}
 use Rattle.rules.specs.State.{ids}
@@ -22,7 +22,7 @@ use Rattle.tracker.proofs.Bridge.{rostered, unit_tracker, tracker_formed, unit_c
 use Rattle.tracker.proofs.EnrolLog.{enrol-verdict, enrol-peers}
 
 pub apply_rostered : (t : Tracker) (b : Bool) → b ≡ not (tracker_well_formed t) → b ≡ false → Rostered t.ids t.records
-apply_rostered t b e f = rostered t (not_false (tracker_well_formed t) (sym e ∙ f))
+apply_rostered t b e f = rostered t (not-false (tracker_well_formed t) (sym e ∙ f))
 
 module _ (t : Tracker) (c : Configuration) (log : ChangeLog) (next : ℕ) where
   -- the state with the configuration and the tracked
@@ -32,27 +32,27 @@ module _ (t : Tracker) (c : Configuration) (log : ChangeLog) (next : ℕ) where
   module _ (b₁ : Bool) (e₁ : b₁ ≡ not (tracker_well_formed t)) (o : Outcome) (q : o ≡ refused_of t 1 0) where
     pub apply_1 : b₁ ≡ true → o ≡ apply_of t c log next
     unfolding apply_of
-    apply_1 f = rw (not_true (tracker_well_formed t) (sym e₁ ∙ f)) q
+    apply_1 f = rw (not-true (tracker_well_formed t) (sym e₁ ∙ f)) q
 
     module _ (f₁ : b₁ ≡ false) (b₂ : Bool) (e₂ : b₂ ≡ not (conf_well_formed c)) where
       pub apply_2 : b₂ ≡ true → o ≡ apply_of t c log next
       unfolding apply_of
-      apply_2 f = rw (not_false (tracker_well_formed t) (sym e₁ ∙ f₁), not_true (conf_well_formed c) (sym e₂ ∙ f)) q
+      apply_2 f = rw (not-false (tracker_well_formed t) (sym e₁ ∙ f₁), not-true (conf_well_formed c) (sym e₂ ∙ f)) q
 
       pub apply_3 : b₂ ≡ false → (b₃ : Bool) → b₃ ≡ not (log_well_formed log) → b₃ ≡ true → o ≡ apply_of t c log next
       unfolding apply_of
-      apply_3 f₂ b₃ e₃ f = rw (not_false (tracker_well_formed t) (sym e₁ ∙ f₁), not_false (conf_well_formed c) (sym e₂ ∙ f₂), not_true (log_well_formed log) (sym e₃ ∙ f)) q
+      apply_3 f₂ b₃ e₃ f = rw (not-false (tracker_well_formed t) (sym e₁ ∙ f₁), not-false (conf_well_formed c) (sym e₂ ∙ f₂), not-true (log_well_formed log) (sym e₃ ∙ f)) q
 
   module _ (b₁ : Bool) (e₁ : b₁ ≡ not (tracker_well_formed t)) (f₁ : b₁ ≡ false) where
     sound : tracker_well_formed t ≡ true
-    sound = not_false (tracker_well_formed t) (sym e₁ ∙ f₁)
+    sound = not-false (tracker_well_formed t) (sym e₁ ∙ f₁)
 
     module _ (b₂ : Bool) (e₂ : b₂ ≡ not (conf_well_formed c)) (f₂ : b₂ ≡ false) (b₃ : Bool) (e₃ : b₃ ≡ not (log_well_formed log)) (f₃ : b₃ ≡ false) where
       whole : conf_well_formed c ≡ true
-      whole = not_false (conf_well_formed c) (sym e₂ ∙ f₂)
+      whole = not-false (conf_well_formed c) (sym e₂ ∙ f₂)
 
       short : log_well_formed log ≡ true
-      short = not_false (log_well_formed log) (sym e₃ ∙ f₃)
+      short = not-false (log_well_formed log) (sym e₃ ∙ f₃)
 
       -- nothing is malformed
       formed-all : apply_of t c log next ≡ outcome_of (settle (room (log_of log) (ids (state_of t).peers)) (state_of t) (applied (state_of t) (conf_of c) (log_of log) next))

@@ -4,7 +4,7 @@ use mathlib.Core.Path.{◌≡◌, ap, ◌∙◌, sym}
 use mathlib.Core.Bool.{Bool, true, false, not}
 use mathlib.Core.List.{List}
 use native.Mathlib.Omega.{arith}
-use borrow.Author.Tests.{le_leb, lt-leb, not_true, not_false}
+use borrow.Author.Tests.{le-leb, lt-leb, not-true, not-false}
 use lib.ListN.{length, drop, set}
 use Rattle.progress.specs.declared.Progress.{Progress}
 use Rattle.progress.specs.Record.{unused_record}
@@ -101,7 +101,7 @@ module _ {s : IdSet} {rs : List Progress} (o : Rostered s rs) (x at : ℕ) (f : 
       unfolding enter_in
       add_full h =
           let k : 64 ≤ length (ids ps) = omega (arith, count) in
-          rw (none, le_leb _ _ k, roster_set o, roster_places o)
+          rw (none, le-leb _ _ k, roster_set o, roster_places o)
 
       pub add_new : s.len < 64 → (l : List Progress) → l ≡ insert_at at r rs → (g : Inserted) → g ≡ insert_of x s
           → ◌≡◌ {A = Peers} (record { ids = g.set; records = l; full = false; id = 0 }) (enter_in r (add x) (peers_of (held s) rs))
@@ -115,13 +115,13 @@ module _ {s : IdSet} {rs : List Progress} (o : Rostered s rs) (x at : ℕ) (f : 
 
   pub remove_none : not b ≡ true → ◌≡◌ {A = Peers} (record { ids = s; records = rs; full = false; id = 0 }) (enter_in unused_record (remove x) (peers_of (held s) rs))
   unfolding enter_in
-  remove_none t = rw (untrack_none x ps (sym tells ∙ not_true b t), roster_set o, roster_places o)
+  remove_none t = rw (untrack_none x ps (sym tells ∙ not-true b t), roster_set o, roster_places o)
 
   pub remove_gone : not b ≡ false → (l : List Progress) → l ≡ remove_at at unused_record rs → (g : Removed) → g ≡ remove_of x s
       → ◌≡◌ {A = Peers} (record { ids = g.set; records = l; full = false; id = 0 }) (enter_in unused_record (remove x) (peers_of (held s) rs))
   unfolding enter_in
   remove_gone t l i g j =
-      rw (ids-untrack x ps, roster_ids o, places-gone x ps q.rises (sym tells ∙ not_false b t) q.few, roster_places o, ← place, i, j, remove_formed x s o.set)
+      rw (ids-untrack x ps, roster_ids o, places-gone x ps q.rises (sym tells ∙ not-false b t) q.few, roster_places o, ← place, i, j, remove_formed x s o.set)
 
 -- ** Either
 

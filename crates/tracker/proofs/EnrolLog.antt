@@ -8,7 +8,7 @@ use native.Mathlib.Numerals.{add-one}
 use native.Mathlib.Omega.{arith}
 use borrow.Author.Tests.{leb-false}
 use lib.Dec.{leb}
-use lib.ListN.{length, take, drop, get_or, length-take, drop_of_length_le}
+use lib.ListN.{length, take, drop, get_or, length-take, drop_of_length-le}
 use lib.Seq.{drop-cons, get_or-take}
 use Rattle.progress.specs.declared.Progress.{Progress}
 use Rattle.rules.specs.Ids.{memb, insert_id}
@@ -93,7 +93,7 @@ enrol-start r s rs n es o h = record { long = h; rostered = o; vacant = refl; un
 module _ {r : Progress} {ps₀ : List Peer} {n : ℕ} {es : List MapChange} {p : Peers} {i : ℕ} (s : Enrolling r ps₀ n es p i) where
   none_left : length (take n es) ≤ i → p ≡ enrol_in r (entries_of (take n es)) ps₀
   unfolding enrol_in entries_of
-  none_left h = rw (s.same, drop_of_length_le (take n es) h, roster_set s.rostered, roster_places s.rostered, ← s.vacant, ← s.unnamed)
+  none_left h = rw (s.same, drop_of_length-le (take n es) h, roster_set s.rostered, roster_places s.rostered, ← s.vacant, ← s.unnamed)
 
   pub enrol-end : n ≤ i → p ≡ enrol_in r (entries_of (take n es)) ps₀
   enrol-end h = none_left (omega (arith, length-take n es))

@@ -6,7 +6,7 @@ use mathlib.Core.Bool.{Bool, true, false, ◌||◌, cond, true≢false, false≢
 use mathlib.Core.List.{List, [], ◌∷◌, ◌++◌}
 use native.Mathlib.Numerals.{add-one}
 use native.Mathlib.Omega.{arith}
-use borrow.Author.Tests.{ltb_true, ltb-false, eqb-true}
+use borrow.Author.Tests.{ltb-true, ltb-false, eqb-true}
 use lib.Dec.{eqb, ltb}
 use lib.ListN.{length, take, drop, set}
 use Rattle.progress.specs.declared.Progress.{Progress}
@@ -39,7 +39,7 @@ head : (x y : ℕ) (ys : List ℕ) → above y ys ≡ true → eqb y x || memb x
 head x y ys a m = go (ltb y x) refl (eqb y x) refl m
   where
     go : (b : Bool) → ltb y x ≡ b → (e : Bool) → eqb y x ≡ e → e || memb x ys ≡ true → Head x y ys
-    go true l true q m = absurd (omega (arith, ltb_true y x l, eqb-true y x q))
+    go true l true q m = absurd (omega (arith, ltb-true y x l, eqb-true y x q))
     go true l false q m = later l q m
     go false l true q m = here l q
     go false l false q m = absurd (true≢false (sym m ∙ above_none x y ys a (ltb-false y x l)))

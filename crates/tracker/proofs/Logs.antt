@@ -4,10 +4,10 @@ use mathlib.Core.Path.{◌≡◌, refl, ap, ◌∙◌}
 use mathlib.Core.Bool.{Bool, true, ◌&&◌}
 use mathlib.Core.List.{List, [], ◌∷◌}
 use native.Mathlib.Omega.{arith}
-use borrow.Author.Tests.{eq-eqb, eqb-true, leb-true, le_leb}
+use borrow.Author.Tests.{eq-eqb, eqb-true, leb-true, le-leb}
 use lib.Dec.{eqb, leb}
 use lib.ListN.{length, take, drop, replicate}
-use lib.Seq.{length_take_le, take_at}
+use lib.Seq.{length-take-le, take_at}
 use Rattle.rules.specs.State.{Entry, add, remove, log_formed}
 use Rattle.rules.proofs.Sets.{and_left, and_right}
 use Rattle.tracker.specs.Bridge.{entry, entry_of, map_change_of, entries_of, map_changes_of, blank, log_of, change_log_of}
@@ -68,7 +68,7 @@ log-parts l h =
 
 pub parts-log : (l : ChangeLog) → Logged l → log_well_formed l ≡ true
 unfolding log_well_formed
-parts-log l g = rw (eq-eqb _ _ g.long, le_leb _ _ g.few, g.clear)
+parts-log l g = rw (eq-eqb _ _ g.long, le-leb _ _ g.few, g.clear)
 
 -- ** Logs
 
@@ -76,7 +76,7 @@ module _ (l : ChangeLog) (w : log_well_formed l ≡ true) where
   pub length-log : length (log_of l) ≡ l.count
   length-log =
       let g : Logged l = log-parts l w in
-      length_entries (take l.count l.entries) ∙ length_take_le l.count l.entries (omega arith)
+      length_entries (take l.count l.entries) ∙ length-take-le l.count l.entries (omega arith)
 
   pub unit_log : change_log_of (log_of l) ≡ l
   unfolding change_log_of
@@ -88,7 +88,7 @@ module _ (l : ChangeLog) (w : log_well_formed l ≡ true) where
   unfolding log_formed
   log-formed =
       let g : Logged l = log-parts l w in
-      le_leb (length (log_of l)) 256 (omega (arith, length-log))
+      le-leb (length (log_of l)) 256 (omega (arith, length-log))
 
 module _ (es : List Entry) (few : length es ≤ 256) where
   pub log_back : log_of (change_log_of es) ≡ es

@@ -4,7 +4,7 @@ use mathlib.Core.Path.{◌≡◌, refl, sym, ◌∙◌}
 use mathlib.Core.Bool.{Bool, true, false, not, ◌&&◌, ◌||◌, cond}
 use mathlib.Core.List.{List}
 use native.Mathlib.Omega.{arith}
-use borrow.Author.Tests.{eq-eqb, ne_eqb, ltb_true, not_true, not_false, eqb-true}
+use borrow.Author.Tests.{eq-eqb, ne_eqb, ltb-true, not-true, not-false, eqb-true}
 use lib.Dec.{eqb, ltb}
 use lib.ListN.{length, take}
 use Rattle.rules.specs.Answers as rules
@@ -35,10 +35,10 @@ use Rattle.unplug.proofs.WordBlocks.{some_words}
 
 module _ {r a : Bool} (e : r ≡ not a) where
   pub told_ill : r ≡ true → a ≡ false
-  told_ill h = not_true a (sym e ∙ h)
+  told_ill h = not-true a (sym e ∙ h)
 
   pub told_well : r ≡ false → a ≡ true
-  told_well h = not_false a (sym e ∙ h)
+  told_well h = not-false a (sym e ∙ h)
 
 -- ** The flags of the records
 
@@ -82,7 +82,7 @@ module _ (f : ℕ → ℕ) (x : ℕ) where
         more = and_left (ltb (f 0) (f 1)) (above (f 1) (take n (words_by 62 f 2))) a
 
         other : eqb (f 0) x ≡ true → f 1 ≡ x → ⊥
-        other e q = omega (arith, eqb-true (f 0) x e, ltb_true (f 0) (f 1) more)
+        other e q = omega (arith, eqb-true (f 0) x e, ltb-true (f 0) (f 1) more)
 
         go : (b : Bool) → eqb (f 0) x ≡ b → false ≡ not (not b || (not (eqb (f 1) x) || another x (take n (words_by 62 f 2))))
         go true e = rw (ne_eqb (f 1) x (other e))

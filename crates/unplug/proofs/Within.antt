@@ -4,7 +4,7 @@ use mathlib.Core.Path.{◌≡◌, refl, ap, sym, ◌∙◌}
 use mathlib.Core.Bool.{Bool, true, false, not, ◌&&◌}
 use native.Mathlib.Omega.{arith}
 use lib.Dec.{leb}
-use borrow.Author.Tests.{le_leb, lt-leb, not_true, not_false}
+use borrow.Author.Tests.{le-leb, lt-leb, not-true, not-false}
 use Rattle.unplug.specs.Words.{within_by}
 
 -- what is left: `left` words from `at` on
@@ -39,7 +39,7 @@ module _ {f : ℕ → ℕ} {k n step most at left : ℕ} (a : Asking f k n step 
 
   pub ask-next : {w : ℕ} → 0 < left → w ≡ f at → w ≤ most → Asking f k n step most (at + step) (left - 1)
   ask-next {w} h e m =
-      let under : leb (f at) most ≡ true = le_leb (f at) most (omega (arith, e, m)) in
+      let under : leb (f at) most ≡ true = le-leb (f at) most (omega (arith, e, m)) in
       record {
         room = omega (arith, a.room, ask-steps left step h);
         same = sym (ask-split left most step f at h ∙ ap (λ b. b && within_by (left - 1) most step f (at + step)) under) ∙ a.same;
@@ -55,7 +55,7 @@ module _ {f : ℕ → ℕ} {k n step most at left : ℕ} (a : Asking f k n step 
 
 module _ {r a : Bool} (e : r ≡ a) where
   pub test_no : not r ≡ true → a ≡ false
-  test_no t = sym e ∙ not_true r t
+  test_no t = sym e ∙ not-true r t
 
   pub test_yes : not r ≡ false → a ≡ true
-  test_yes t = sym e ∙ not_false r t
+  test_yes t = sym e ∙ not-false r t

@@ -1,6 +1,8 @@
 // Can this box be unplugged? Document 02, d): number and id of `simple` with the removal of one box, of any state, without the call. The state is lent
 // as the words of a STATE (docs/EMBEDDING.md) and read where they stand: no copy of it, no log and no configuration is made. The sets are at the words
 // 0 incoming, 65 outgoing, 130 learners, 195 learners_next and 261 tracked; each has 64 ids and then its count.
+#![tactic(auto)]
+
 ghost use Rattle.std.specs.Prelude.{◌≡◌, true, not, ◌+◌, ◌*◌, ◌≤◌, length};
 ghost use Rattle.rules.specs.Ids.{ascending};
 ghost use Rattle.rules.specs.Unplug.{voter_left};

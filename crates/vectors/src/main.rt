@@ -1,6 +1,8 @@
 // Replays the fixed vectors, the Rust's answers, without Rust: reads the cases from standard input, runs the entry of each and compares what it
 // returns and every lent byte. Prints a line for each case that differs, and the counts. `host/run vectors crates/vectors` makes the files stdin and
 // stdout of this crate from the Rust's answers; host/VECTORS.md says how, and has the format.
+#![tactic(auto)]
+
 use case::{Head, Outcome};
 use libc::STDIN_FILENO;
 use std::num::wrapping_add_u64;

@@ -7,7 +7,7 @@ use native.Mathlib.Numerals.{add-one}
 use native.Mathlib.Omega.{arith}
 use borrow.Author.Tests.{le-ltb, lt-leb}
 use lib.Dec.{leb, ltb}
-use lib.ListN.{length, drop, get_or, drop_of_length_le}
+use lib.ListN.{length, drop, get_or, drop_of_length-le}
 use lib.Seq.{drop-cons}
 use Rattle.rules.proofs.Wire.{front-one}
 use Rattle.rules.specs.Wire.{Front, cut, num, more, front, fits}
@@ -16,7 +16,7 @@ use Rattle.wire.specs.Varints.{past}
 -- what stands at place p, by its first byte
 pub front_none : (l : List ℕ) (p : ℕ) → length l ≤ p → front (drop p l) ≡ cut
 unfolding front
-front_none l p h = rw (drop_of_length_le l h)
+front_none l p h = rw (drop_of_length-le l h)
 
 pub front-last : (l : List ℕ) (p : ℕ) → p < length l → get_or l p 0 < 128 → front (drop p l) ≡ num (get_or l p 0) 1
 front-last l p h k = ap front (drop-cons l p 0 h) ∙ front-one (get_or l p 0) (drop (suc p) l) k

@@ -7,7 +7,7 @@ use mathlib.Core.List.{List}
 use native.Mathlib.Nat.{zero-add, add-zero, mul-add, mul_assoc, mul-le-mul_left, mul-le-mul_right, pow-suc, pow-le-pow_right}
 use native.Mathlib.Numerals.{add-one}
 use native.Mathlib.Omega.{arith}
-use borrow.Author.Tests.{ltb_true, ltb-false}
+use borrow.Author.Tests.{ltb-true, ltb-false}
 use lib.Dec.{ltb}
 use lib.ListN.{length, take, drop, get_or, length-drop}
 use lib.Seq.{take_all}
@@ -81,7 +81,7 @@ module _ (l : List ℕ) (v : ℕ) (h : 9 < length l) where
 
       split : (t : Bool) → ltb (get_or l 9 0) 128 ≡ t → over_at r ≡ placed 0 (after v (front (drop 9 l)))
       split true t =
-          let d : get_or l 9 0 < 128 = ltb_true (get_or l 9 0) 128 t in
+          let d : get_or l 9 0 < 128 = ltb-true (get_or l 9 0) 128 t in
           at-num (get_or l 9 0) 1 (front-last l 9 h d) (fits_large (v + 2 ^ 63 * get_or l 9 0) (9 + 1) (omega arith))
       split false t = rest (ltb-false (get_or l 9 0) 128 t) (front (drop 10 l)) refl
 

@@ -1,5 +1,7 @@
 // Varints, read from a slice of bytes and put into one: crates/rules/specs/Wire.antt. internal: what is put needs room, which the writer of crate
 // confstate has counted before.
+#![tactic(auto)]
+
 ghost use Rattle.std.specs.Prelude.{◌≡◌, ◌+◌, ◌≤◌, ◌<◌, ◌^◌, length};
 ghost use Rattle.rules.specs.Wire.{varint_of};
 ghost use Rattle.text.specs.Put.{Put};

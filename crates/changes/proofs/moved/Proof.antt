@@ -1,7 +1,7 @@
 -- `changes::moved` meets its contract, at each effect. Assumes nothing.
 use Prim.Native.Nat.{◌≤◌, ◌<◌}
 use native.Mathlib.Omega.{arith}
-use borrow.Author.Tests.{le_leb, lt-leb}
+use borrow.Author.Tests.{le-leb, lt-leb}
 use borrow.Author.Rules.{rules}
 use Rattle.changes.proofs.moved.Statement.{statement}
 use Rattle.changes.proofs.moved.Tie as tie
@@ -25,7 +25,7 @@ returns : tie.Need-returns
 returns c =
     let at = c.before.before.before in
     let full : 64 ≤ at.before.before.args.w.tracked = omega arith in
-    rw (at.enum-told2.given.1, le_leb 64 _ full)
+    rw (at.enum-told2.given.1, le-leb 64 _ full)
 
 place-requires-2 : tie.Need-place-requires-2
 place-requires-2 c κs = search rules

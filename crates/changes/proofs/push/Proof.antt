@@ -1,5 +1,5 @@
 -- `changes::push` meets its contract. Assumes nothing.
-use borrow.Author.Tests.{le_leb, lt-leb}
+use borrow.Author.Tests.{le-leb, lt-leb}
 use borrow.Author.Rules.{rules}
 use Rattle.changes.specs.Change.{push_in}
 use Rattle.changes.proofs.push.Statement.{statement}
@@ -7,7 +7,7 @@ use Rattle.changes.proofs.push.Tie as tie
 
 returns : tie.Need-returns
 unfolding push_in
-returns c = rw (le_leb 256 _ c.if1.true)
+returns c = rw (le-leb 256 _ c.if1.true)
 
 mul-t8 : tie.Need-overflow-mul-t8
 mul-t8 c = search rules

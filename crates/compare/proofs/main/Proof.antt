@@ -1,7 +1,7 @@
 -- `compare::main` hands on what was read. Assumes nothing.
 use mathlib.Core.Path.{sym}
 use native.Mathlib.Omega.{arith}
-use lib.Seq.{length_take_le}
+use lib.Seq.{length-take-le}
 use borrow.Author.Rules.{rules}
 use Rattle.compare.proofs.main.Statement.{statement}
 use Rattle.compare.proofs.main.Tie as tie
@@ -34,13 +34,13 @@ array-share-prefix-first : tie.Need-array-share-prefix-first
 array-share-prefix-first c = search rules
 
 slice-aggregate-show : tie.Need-slice-aggregate-show
-slice-aggregate-show c = sym (length_take_le _ _ (omega (arith, c.before.before.before.before.before.before.read-file.ensures)))
+slice-aggregate-show c = sym (length-take-le _ _ (omega (arith, c.before.before.before.before.before.before.read-file.ensures)))
 
 array-share-prefix-second : tie.Need-array-share-prefix-second
 array-share-prefix-second c = search rules
 
 slice-aggregate-show-2 : tie.Need-slice-aggregate-show-2
-slice-aggregate-show-2 c = sym (length_take_le _ _ (omega (arith, c.before.before.before.before.read-file2.ensures)))
+slice-aggregate-show-2 c = sym (length-take-le _ _ (omega (arith, c.before.before.before.before.read-file2.ensures)))
 
 show-requires : tie.Need-show-requires
 show-requires c κs = search rules

@@ -1,7 +1,7 @@
 -- `compare::read_file` meets its contract. Assumes nothing.
 use mathlib.Core.Path.{sym}
 use native.Mathlib.Omega.{arith}
-use lib.Seq.{length_take_le}
+use lib.Seq.{length-take-le}
 use borrow.Author.Rules.{rules}
 use Rattle.compare.proofs.read_file.Statement.{statement}
 use Rattle.compare.proofs.read_file.Tie as tie
@@ -22,7 +22,7 @@ array-share-prefix-what : tie.Need-array-share-prefix-what
 array-share-prefix-what c = search rules
 
 slice-aggregate-fail : tie.Need-slice-aggregate-fail
-slice-aggregate-fail c = sym (length_take_le _ _ (omega (arith, c.before.before.before.before.named.ensures)))
+slice-aggregate-fail c = sym (length-take-le _ _ (omega (arith, c.before.before.before.before.named.ensures)))
 
 fail-requires : tie.Need-fail-requires
 fail-requires c κs = search rules
@@ -34,7 +34,7 @@ array-share-prefix-what-2 : tie.Need-array-share-prefix-what-2
 array-share-prefix-what-2 c = search rules
 
 slice-aggregate-read-input : tie.Need-slice-aggregate-read-input
-slice-aggregate-read-input c = sym (length_take_le _ _ (omega (arith, c.before.before.before.before.before.named.ensures)))
+slice-aggregate-read-input c = sym (length-take-le _ _ (omega (arith, c.before.before.before.before.before.named.ensures)))
 
 read-input-requires : tie.Need-read-input-requires
 read-input-requires c κs = search rules

@@ -1,7 +1,7 @@
 -- `compare::say` writes no more than it has. Assumes nothing.
 use mathlib.Core.Path.{sym}
 use native.Mathlib.Omega.{arith}
-use lib.Seq.{length_take_le}
+use lib.Seq.{length-take-le}
 use borrow.Author.Rules.{rules}
 use Rattle.compare.proofs.say.Statement.{statement}
 use Rattle.compare.proofs.say.Tie as tie
@@ -16,7 +16,7 @@ array-share-prefix-out : tie.Need-array-share-prefix-out
 array-share-prefix-out c = search rules
 
 slice-aggregate-write-all : tie.Need-slice-aggregate-write-all
-slice-aggregate-write-all c = sym (length_take_le _ _ (omega (arith, c.before.before.named.ensures)))
+slice-aggregate-write-all c = sym (length-take-le _ _ (omega (arith, c.before.before.named.ensures)))
 
 write-all-requires : tie.Need-write-all-requires
 write-all-requires c κs = search rules

@@ -1,7 +1,7 @@
 -- `compare::show` prints the whole text: it fits. Assumes nothing.
 use mathlib.Core.Path.{sym}
 use native.Mathlib.Omega.{arith}
-use lib.Seq.{length_take_le}
+use lib.Seq.{length-take-le}
 use borrow.Author.Rules.{rules}
 use Rattle.comparison.proofs.Size.{comparison-size}
 use Rattle.compare.proofs.show.Statement.{statement}
@@ -17,7 +17,7 @@ array-share-prefix-out : tie.Need-array-share-prefix-out
 array-share-prefix-out c = omega (arith, c.before.put-comparison.ensures.end, comparison-size c.before.before.before.before.before.args.readable c.before.before.before.before.before.args.first.now c.before.before.before.before.before.args.second.now)
 
 slice-aggregate-write-output : tie.Need-slice-aggregate-write-output
-slice-aggregate-write-output c = sym (length_take_le _ _ (omega (arith, c.before.before.put-comparison.ensures.end, comparison-size c.before.before.before.before.before.before.args.readable c.before.before.before.before.before.before.args.first.now c.before.before.before.before.before.before.args.second.now)))
+slice-aggregate-write-output c = sym (length-take-le _ _ (omega (arith, c.before.before.put-comparison.ensures.end, comparison-size c.before.before.before.before.before.before.args.readable c.before.before.before.before.before.before.args.first.now c.before.before.before.before.before.before.args.second.now)))
 
 slice-aggregate-write-output-2 : tie.Need-slice-aggregate-write-output-2
 slice-aggregate-write-output-2 c = search rules

@@ -1,13 +1,13 @@
 -- `listing::pend` meets its contract. Assumes nothing.
 use borrow.Author.Rules.{rules}
-use borrow.Author.Tests.{le_leb, lt-leb}
+use borrow.Author.Tests.{le-leb, lt-leb}
 use Rattle.listing.specs.Sessions.{pend_in}
 use Rattle.listing.proofs.pend.Statement.{statement}
 use Rattle.listing.proofs.pend.Tie as tie
 
 returns : tie.Need-returns
 unfolding pend_in
-returns c = simp (le_leb _ _ c.if1.true)
+returns c = simp (le-leb _ _ c.if1.true)
 
 mul-longer : tie.Need-overflow-mul-longer
 mul-longer c = search rules

@@ -1,7 +1,7 @@
 -- `replay::main` lists what was read. Assumes nothing.
 use mathlib.Core.Path.{sym}
 use native.Mathlib.Omega.{arith}
-use lib.Seq.{length_take_le}
+use lib.Seq.{length-take-le}
 use borrow.Author.Rules.{rules}
 use Rattle.replay.proofs.main.Statement.{statement}
 use Rattle.replay.proofs.main.Tie as tie
@@ -34,7 +34,7 @@ array-share-prefix-script : tie.Need-array-share-prefix-script
 array-share-prefix-script c = search rules
 
 slice-aggregate-list : tie.Need-slice-aggregate-list
-slice-aggregate-list c = sym (length_take_le _ _ (omega arith))
+slice-aggregate-list c = sym (length-take-le _ _ (omega arith))
 
 list-requires : tie.Need-list-requires
 list-requires c κs = search rules

@@ -1,7 +1,7 @@
 -- `replay::show` lends as much of the block as there is. Assumes nothing.
 use mathlib.Core.Path.{sym}
 use native.Mathlib.Omega.{arith}
-use lib.Seq.{length_take_le}
+use lib.Seq.{length-take-le}
 use borrow.Author.Rules.{rules}
 use Rattle.replay.proofs.show.Statement.{statement}
 use Rattle.replay.proofs.show.Tie as tie
@@ -10,7 +10,7 @@ returns : tie.Need-returns
 returns c = search rules
 
 slice-aggregate-write-output : tie.Need-slice-aggregate-write-output
-slice-aggregate-write-output c = sym (length_take_le _ _ (omega arith))
+slice-aggregate-write-output c = sym (length-take-le _ _ (omega arith))
 
 slice-aggregate-write-output-2 : tie.Need-slice-aggregate-write-output-2
 slice-aggregate-write-output-2 c = search rules

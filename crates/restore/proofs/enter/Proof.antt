@@ -1,7 +1,7 @@
 -- `enter`: the answer of `enter_joint` to the list made of the `ConfState`, applied. Assumes nothing.
 use borrow.Author.Rules.{rules}
 use mathlib.Core.Path.{sym}
-use lib.Seq.{length_take_le}
+use lib.Seq.{length-take-le}
 use Rattle.restore.proofs.Sizes.{ids-room, kinds-room}
 use Rattle.restore.proofs.Answers.{entered_once}
 use Rattle.restore.proofs.enter.Statement.{statement}
@@ -18,7 +18,7 @@ array-share-prefix-ids c =
 slice-aggregate-enter-joint : tie.Need-slice-aggregate-enter-joint
 slice-aggregate-enter-joint c =
     let made = c.before.before.before.to-conf-change-single in
-    sym (length_take_le _ _ (ids-room made.result made.type-inv made.ensures))
+    sym (length-take-le _ _ (ids-room made.result made.type-inv made.ensures))
 
 array-share-prefix-kinds : tie.Need-array-share-prefix-kinds
 array-share-prefix-kinds c =
@@ -28,7 +28,7 @@ array-share-prefix-kinds c =
 slice-aggregate-enter-joint-2 : tie.Need-slice-aggregate-enter-joint-2
 slice-aggregate-enter-joint-2 c =
     let made = c.before.before.before.before.to-conf-change-single in
-    sym (length_take_le _ _ (kinds-room made.result made.type-inv made.ensures))
+    sym (length-take-le _ _ (kinds-room made.result made.type-inv made.ensures))
 
 enter-joint-requires : tie.Need-enter-joint-requires
 enter-joint-requires c κs = search rules

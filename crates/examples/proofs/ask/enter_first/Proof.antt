@@ -1,7 +1,7 @@
 -- `examples::ask::enter_first` lends as much of ids and kinds as there is. Assumes nothing.
 use mathlib.Core.Path.{sym}
 use native.Mathlib.Omega.{arith}
-use lib.Seq.{length_take_le}
+use lib.Seq.{length-take-le}
 use borrow.Author.Rules.{rules}
 use Rattle.examples.proofs.ask.enter_first.Statement.{statement}
 use Rattle.examples.proofs.ask.enter_first.Tie as tie
@@ -16,10 +16,10 @@ slice-aggregate-enter : tie.Need-slice-aggregate-enter
 slice-aggregate-enter c = search rules
 
 slice-aggregate-enter-2 : tie.Need-slice-aggregate-enter-2
-slice-aggregate-enter-2 c = sym (length_take_le _ _ (omega arith))
+slice-aggregate-enter-2 c = sym (length-take-le _ _ (omega arith))
 
 slice-aggregate-enter-3 : tie.Need-slice-aggregate-enter-3
-slice-aggregate-enter-3 c = sym (length_take_le _ _ (omega arith))
+slice-aggregate-enter-3 c = sym (length-take-le _ _ (omega arith))
 
 enter-requires : tie.Need-enter-requires
 enter-requires c κs = search rules

@@ -1,13 +1,13 @@
 -- `examples::say::first` lends as much of the buffer as there is. Assumes nothing.
 use mathlib.Core.Path.{sym}
-use lib.Seq.{length_take_le}
+use lib.Seq.{length-take-le}
 use native.Mathlib.Omega.{arith}
 use borrow.Author.Rules.{rules}
 use Rattle.examples.proofs.say.first.Statement.{statement}
 use Rattle.examples.proofs.say.first.Tie as tie
 
 slice-aggregate-words : tie.Need-slice-aggregate-words
-slice-aggregate-words c = sym (length_take_le _ _ (omega arith))
+slice-aggregate-words c = sym (length-take-le _ _ (omega arith))
 
 words-requires : tie.Need-words-requires
 words-requires c κs = search rules

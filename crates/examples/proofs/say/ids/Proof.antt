@@ -1,6 +1,6 @@
 -- `examples::say::ids` lends as many ids as there are. Assumes nothing.
 use mathlib.Core.Path.{sym}
-use lib.Seq.{length_take_le}
+use lib.Seq.{length-take-le}
 use native.Mathlib.Omega.{arith}
 use borrow.Author.Rules.{rules}
 use Rattle.examples.proofs.say.ids.Statement.{statement}
@@ -13,7 +13,7 @@ slice-aggregate-put-group : tie.Need-slice-aggregate-put-group
 slice-aggregate-put-group c = search rules
 
 slice-aggregate-put-group-2 : tie.Need-slice-aggregate-put-group-2
-slice-aggregate-put-group-2 c = sym (length_take_le _ _ (omega arith))
+slice-aggregate-put-group-2 c = sym (length-take-le _ _ (omega arith))
 
 put-group-requires : tie.Need-put-group-requires
 put-group-requires c κs = search rules

@@ -1,6 +1,6 @@
 -- `untrack`: the id is not there, or its place goes from both arrays. Assumes nothing.
 use borrow.Author.Rules.{rules}
-use borrow.Author.Tests.{not_false}
+use borrow.Author.Tests.{not-false}
 use Rattle.tracker.proofs.EnrolEntry.{at-within, remove_none, remove_gone}
 use Rattle.tracker.proofs.apply.untrack.Statement.{statement}
 use Rattle.tracker.proofs.apply.untrack.Tie as tie
@@ -19,7 +19,7 @@ returns c =
 remove-record-requires : tie.Need-remove-record-requires
 remove-record-requires c κs =
     let w = c.before.before.before.before.before in
-    at-within w.before.before.before.before.before.before.requires _ _ w.seek.ensures _ c.before.stands_at.ensures (not_false _ c.if1.false)
+    at-within w.before.before.before.before.before.before.requires _ _ w.seek.ensures _ c.before.stands_at.ensures (not-false _ c.if1.false)
 
 remove-requires : tie.Need-remove-requires
 remove-requires c κs = search rules

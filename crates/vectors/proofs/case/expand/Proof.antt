@@ -1,5 +1,5 @@
 -- `vectors::case::expand` hands on as much of its buffer as the case has. Assumes nothing.
-use Rattle.std.proofs.Common.{sym, arith, length_take_le, rules}
+use Rattle.std.proofs.Common.{sym, arith, length-take-le, rules}
 use Rattle.vectors.proofs.case.expand.Statement.{statement}
 use Rattle.vectors.proofs.case.expand.Tie as tie
 
@@ -28,7 +28,7 @@ array-share-prefix-body : tie.Need-array-share-prefix-body
 array-share-prefix-body c = search rules
 
 slice-aggregate-lend : tie.Need-slice-aggregate-lend
-slice-aggregate-lend c = sym (length_take_le _ _ (omega arith))
+slice-aggregate-lend c = sym (length-take-le _ _ (omega arith))
 
 lend-requires : tie.Need-lend-requires
 lend-requires c κs = search rules

@@ -1,5 +1,5 @@
 -- `vectors::case::fetch` lends as much of its buffer as there is. Assumes nothing.
-use Rattle.std.proofs.Common.{sym, arith, length_take_le, rules}
+use Rattle.std.proofs.Common.{sym, arith, length-take-le, rules}
 use Rattle.vectors.proofs.case.fetch.Statement.{statement}
 use Rattle.vectors.proofs.case.fetch.Tie as tie
 
@@ -13,7 +13,7 @@ array-borrow-prefix-packed : tie.Need-array-borrow-prefix-packed
 array-borrow-prefix-packed c = search rules
 
 slice-aggregate-fill : tie.Need-slice-aggregate-fill
-slice-aggregate-fill c = sym (length_take_le _ _ (omega arith))
+slice-aggregate-fill c = sym (length-take-le _ _ (omega arith))
 
 fill-requires : tie.Need-fill-requires
 fill-requires c κs = search rules

@@ -1,5 +1,5 @@
 -- `vectors::case::lend` lends as many bytes as the case wants. Assumes nothing.
-use Rattle.std.proofs.Common.{sym, arith, length-drop, length-take, length_take_le, rules}
+use Rattle.std.proofs.Common.{sym, arith, length-drop, length-take, length-take-le, rules}
 use Rattle.vectors.proofs.case.lend.Statement.{statement}
 use Rattle.vectors.proofs.case.lend.Tie as tie
 
@@ -13,7 +13,7 @@ returns-2 : tie.Need-returns-2
 returns-2 c = search rules
 
 slice-aggregate-compare : tie.Need-slice-aggregate-compare
-slice-aggregate-compare c = sym (length_take_le _ _ (omega arith))
+slice-aggregate-compare c = sym (length-take-le _ _ (omega arith))
 
 sub-compare : tie.Need-overflow-sub-compare
 sub-compare c = search rules
@@ -28,7 +28,7 @@ array-borrow-prefix-lent : tie.Need-array-borrow-prefix-lent
 array-borrow-prefix-lent c = search rules
 
 slice-aggregate-compare-2 : tie.Need-slice-aggregate-compare-2
-slice-aggregate-compare-2 c = sym (length_take_le _ _ (omega arith))
+slice-aggregate-compare-2 c = sym (length-take-le _ _ (omega arith))
 
 compare-requires : tie.Need-compare-requires
 compare-requires c κs = simp (length-take, length-drop) (omega arith)
