@@ -11,4 +11,4 @@ use Rattle.idset.specs.contracts.IdSet as I
 use Rattle.idset.proofs.IdSet.TheLaws as I'
 
 pub set_sized : {vs : List Val} (s : IdSet) → Is I.the_row s vs → length s.ids ≡ 64
-set_sized {vs} s p = sym (length-map s.ids _) ∙ (LL.owed I.the_type I'.the_laws s vs p).0.1.0.1
+set_sized {vs} s p = (LL.owed I.the_type I'.the_laws s vs p).0.1.0.1
