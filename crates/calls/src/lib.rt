@@ -18,7 +18,7 @@ pub mod read; // a request
 pub mod write; // a reply
 
 // What a call answers.
-#[derive(Drop)]
+#[derive(Clone, Copy)]
 pub struct Reply {
     pub number: u64,
     pub id: u64,

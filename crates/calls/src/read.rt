@@ -8,7 +8,7 @@ use progress::{Progress, ProgressState};
 use tracker::{ChangeLog, ConfState, Configuration, IdList, MapChange, MapChangeType, Tracker};
 
 // The LIST: ids and kinds, and how many of each.
-#[derive(Drop)]
+#[derive(Clone, Copy)]
 pub struct ChangeList {
     pub ids: [u64; ChangeList::CAPACITY],
     pub ids_len: usize,

@@ -19,7 +19,7 @@ use tracker::{ChangeLog, Configuration, MapChange, MapChangeType, Tracker, Verdi
 
 // What a call answers: number and id, 0 where it is accepted; then the new configuration, the log and how many entries of the list did nothing, else
 // the configuration given, no log and 0.
-#[derive(Drop)]
+#[derive(Clone, Copy)]
 pub struct Answer {
     pub number: u64,
     pub id: u64,

@@ -16,7 +16,7 @@ pub const MAX_CHANGES: usize = 256;
 
 // The configuration and the log as far as a list is carried out, how many ids are then tracked, how many entries did nothing, and the id for which
 // there was no room.
-#[derive(Drop)]
+#[derive(Clone, Copy)]
 pub struct Work {
     pub conf: Configuration,
     pub log: ChangeLog,
@@ -27,14 +27,14 @@ pub struct Work {
 }
 
 // A set after an id was put into it or taken from it, and whether it changed.
-#[derive(Drop)]
+#[derive(Clone, Copy)]
 pub struct Altered {
     pub set: IdSet,
     pub changed: bool,
 }
 
 // A configuration after an id came to its standing, and whether one of its sets changed.
-#[derive(Drop)]
+#[derive(Clone, Copy)]
 pub struct Placed {
     pub conf: Configuration,
     pub changed: bool,

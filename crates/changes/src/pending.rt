@@ -7,7 +7,7 @@ ghost use Rattle.changes.specs.Pending.{entry_says, tracked_in};
 use tracker::{ChangeLog, MapChange, MapChangeType};
 
 // A map that stores updates instead of apply them directly: the tracked ids that stand below, and how many entries of the log lie over them.
-#[derive(Drop)]
+#[derive(Clone, Copy)]
 pub struct Pending<'a> {
     pub base: &'a [u64],
     pub count: usize,

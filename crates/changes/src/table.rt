@@ -3,7 +3,7 @@ ghost use Rattle.std.specs.Prelude.{◌≡◌, ◌<◌};
 ghost use Rattle.changes.specs.Table.{kind_in, move_of, place_number, column_number, voter_row, row_of, incoming_at, learner_at, staged_at};
 
 // Where an id stands: untracked, tracked only, incoming, learner, outgoing, both voters, outgoing and staged.
-#[derive(Drop)]
+#[derive(Clone, Copy)]
 pub enum Standing {
     None,
     Idle,
@@ -15,7 +15,7 @@ pub enum Standing {
 }
 
 // What a change asks for.
-#[derive(Drop)]
+#[derive(Clone, Copy)]
 pub enum Kind {
     AddNode,
     AddLearnerNode,
@@ -23,14 +23,14 @@ pub enum Kind {
 }
 
 // What is logged.
-#[derive(Drop)]
+#[derive(Clone, Copy)]
 pub enum Effect {
     Stays,
     Adds,
     Removes,
 }
 
-#[derive(Drop)]
+#[derive(Clone, Copy)]
 pub struct Move {
     pub next: Standing,
     pub effect: Effect,

@@ -13,7 +13,7 @@ use idset::IdSet;
 use tracker::{Configuration, Tracker, Verdict, numbers};
 
 // The first id that a walk was looking for, if there is one.
-#[derive(Drop)]
+#[derive(Clone, Copy)]
 pub struct Found {
     pub some: bool,
     pub id: u64,

@@ -21,7 +21,7 @@ pub const MAX_SCRIPT: usize = 65536;
 pub const MAX_INFLIGHT: u64 = 256;
 
 // A replay: the state, the pending list, and how many lines were printed.
-#[derive(Drop)]
+#[derive(Clone, Copy)]
 pub struct Session {
     pub tracker: Tracker,
     pub ids: [u64; changes::MAX_CHANGES],
@@ -102,7 +102,7 @@ pub fn stops(z: Session, kind: u8) -> bool
 }
 
 // Where the text ends after a record, and what is left to go on with.
-#[derive(Drop)]
+#[derive(Clone, Copy)]
 pub struct Turned {
     pub at: usize,
     pub session: Session,

@@ -5,7 +5,7 @@ ghost use Rattle.std.specs.Prelude.{◌≡◌};
 ghost use Rattle.progress.specs.Record.{fresh_record, unused_record, is_probe, is_unused};
 
 // The state of the progress.
-#[derive(Drop)]
+#[derive(Clone, Copy)]
 pub enum ProgressState {
     // Whether it's probing.
     Probe,
@@ -29,7 +29,7 @@ impl ProgressState {
 }
 
 // The progress of catching up from a restart. `max_inflight` stands for `ins`.
-#[derive(Drop)]
+#[derive(Clone, Copy)]
 pub struct Progress {
     pub matched: u64,
     pub next_idx: u64,

@@ -16,7 +16,7 @@ use tracker::apply::{applied, refused};
 use tracker::{ConfState, IdList, Outcome, Tracker, numbers};
 
 // A change list: the first `len` of `ids` and of `kinds`.
-#[derive(Drop)]
+#[derive(Clone, Copy)]
 pub struct Changes {
     pub ids: [u64; changes::MAX_CHANGES],
     pub kinds: [u8; changes::MAX_CHANGES],

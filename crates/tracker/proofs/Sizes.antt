@@ -21,16 +21,16 @@ use Rattle.tracker.specs.contracts.IdList as L
 use Rattle.tracker.proofs.IdList.TheLaws as L'
 
 pub log_sized : {vs : List Val} (l : ChangeLog) → Is G.the_row l vs → length l.entries ≡ 256
-log_sized {vs} l p = sym (length-map l.entries _) ∙ (LL.owed G.the_type G'.the_laws l vs p).0.1.0.1
+log_sized {vs} l p = (LL.owed G.the_type G'.the_laws l vs p).0.1.0.1
 
 pub list_sized : {vs : List Val} (l : IdList) → Is L.the_row l vs → length l.ids ≡ 64
-list_sized {vs} l p = sym (length-map l.ids _) ∙ (LL.owed L.the_type L'.the_laws l vs p).0.1.0.1
+list_sized {vs} l p = (LL.owed L.the_type L'.the_laws l vs p).0.1.0.1
 
 pub tracked_sized : {vs : List Val} (t : Tracker) → Is T.the_row t vs → length t.ids.ids ≡ 64
 tracked_sized {vs} t p = set_sized t.ids (LL.owed T.the_type T'.the_laws t vs p).1.0
 
 pub records_sized : {vs : List Val} (t : Tracker) → Is T.the_row t vs → length t.records ≡ 64
-records_sized {vs} t p = sym (length-map t.records _) ∙ (LL.owed T.the_type T'.the_laws t vs p).1.1.0.1.0.1
+records_sized {vs} t p = (LL.owed T.the_type T'.the_laws t vs p).1.1.0.1.0.1
 
 -- the four sets of a configuration
 module _ {vs : List Val} (c : Configuration) (p : Is K.the_row c vs) where

@@ -15,7 +15,7 @@ use idset::IdSet;
 use progress::Progress;
 
 // The tracked ids with their records, and the id for which there was no room.
-#[derive(Drop)]
+#[derive(Clone, Copy)]
 pub struct Peers {
     pub ids: IdSet,
     pub records: [Progress; Tracker::CAPACITY],

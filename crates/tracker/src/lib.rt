@@ -15,7 +15,7 @@ pub mod apply; // apply_conf
 pub mod conf_state; // to_conf_state
 
 // The configuration tracked in a `Tracker`.
-#[derive(Drop)]
+#[derive(Clone, Copy)]
 pub struct Configuration {
     pub incoming: IdSet,
     pub outgoing: IdSet,
@@ -25,27 +25,27 @@ pub struct Configuration {
 }
 
 // Change log for progress map.
-#[derive(Drop)]
+#[derive(Clone, Copy)]
 pub enum MapChangeType {
     Add,
     Remove,
 }
 
-#[derive(Drop)]
+#[derive(Clone, Copy)]
 pub struct MapChange {
     pub id: u64,
     pub kind: MapChangeType,
 }
 
 // Changes made by `Changer`: the first `count` of `entries`. An unused place is an Add of 0.
-#[derive(Drop)]
+#[derive(Clone, Copy)]
 pub struct ChangeLog {
     pub entries: [MapChange; ChangeLog::CAPACITY],
     pub count: usize,
 }
 
 // The configuration, and the tracked ids with a record each; an unused place has the unused record.
-#[derive(Drop)]
+#[derive(Clone, Copy)]
 pub struct Tracker {
     pub conf: Configuration,
     pub ids: IdSet,
@@ -54,13 +54,13 @@ pub struct Tracker {
 }
 
 // The first `len` of `ids`, in any order, repeats and zeros allowed.
-#[derive(Drop)]
+#[derive(Clone, Copy)]
 pub struct IdList {
     pub ids: [u64; IdList::CAPACITY],
     pub len: usize,
 }
 
-#[derive(Drop)]
+#[derive(Clone, Copy)]
 pub struct ConfState {
     pub voters: IdList,
     pub learners: IdList,
@@ -70,7 +70,7 @@ pub struct ConfState {
 }
 
 // What a call that changes the state answers: number and id, 0 where it is accepted, and the state that it leaves.
-#[derive(Drop)]
+#[derive(Clone, Copy)]
 pub struct Outcome {
     pub number: u64,
     pub id: u64,
@@ -78,7 +78,7 @@ pub struct Outcome {
 }
 
 // What `to_conf_state` answers.
-#[derive(Drop)]
+#[derive(Clone, Copy)]
 pub struct Written {
     pub number: u64,
     pub id: u64,
@@ -86,7 +86,7 @@ pub struct Written {
 }
 
 // The number and id alone.
-#[derive(Drop)]
+#[derive(Clone, Copy)]
 pub struct Verdict {
     pub number: u64,
     pub id: u64,

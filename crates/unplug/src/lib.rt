@@ -18,7 +18,7 @@ use idset::IdSet;
 use tracker::{Tracker, Verdict, numbers};
 
 // What is told: 0, and the number and id; or why the words are no state, 1 or 4.
-#[derive(Drop)]
+#[derive(Clone, Copy)]
 pub struct Told {
     pub returned: u64,
     pub number: u64,
