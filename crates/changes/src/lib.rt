@@ -66,7 +66,7 @@ pub fn change(w: Work, base: &[u64], id: u64, kind: table::Kind) -> Work
 {
     if id == 0 {
         let mut skipped = w;
-        skipped.idle = one_more_lem(w.idle);
+        skipped.idle = one_more(w.idle);
         return skipped;
     }
     let log = w.log;
@@ -155,11 +155,11 @@ fn idle_after(n: usize, changed: bool) -> usize
     if changed {
         return n;
     }
-    one_more_lem(n)
+    one_more(n)
 }
 
 // One more, as far as a list can be long.
-fn one_more_lem(n: usize) -> usize
+fn one_more(n: usize) -> usize
     ensures { result ≡ one_more n }
 {
     if n < MAX_CHANGES { n + 1 } else { n }

@@ -176,11 +176,11 @@ fn applied(z: Session, a: Answer, next_idx: u64) -> Session
         ids: [0u64; changes::MAX_CHANGES],
         kinds: [0u8; changes::MAX_CHANGES],
         len: 0, // nothing is pending
-        printed: one_more_lem(z.printed),
+        printed: one_more(z.printed),
     }
 }
 
-fn one_more_lem(n: u64) -> u64
+fn one_more(n: u64) -> u64
     ensures { result ≡ min (n + 1) last }
 {
     if n == 18446744073709551615 {

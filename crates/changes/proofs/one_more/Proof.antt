@@ -1,8 +1,8 @@
 -- `changes::one_more` meets its contract: below 256 it adds one. Assumes nothing.
 use borrow.Author.Tests.{lt-ltb, le-ltb}
 use borrow.Author.Rules.{rules}
-use Rattle.changes.proofs.one_more_lem.Statement.{statement}
-use Rattle.changes.proofs.one_more_lem.Tie as tie
+use Rattle.changes.proofs.one_more.Statement.{statement}
+use Rattle.changes.proofs.one_more.Tie as tie
 
 add-result : tie.Need-overflow-add-result
 add-result c = search rules

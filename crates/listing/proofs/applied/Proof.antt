@@ -13,7 +13,7 @@ one-more-requires c κs = search rules
 
 returns : tie.Need-returns
 unfolding applied_in
-returns c = λ i. record { tracker = (c.before.before.apply-answer.ensures i).tracker; ids = replicate 256 0; kinds = replicate 256 0; len = 0; printed = c.one_more_lem.ensures i }
+returns c = λ i. record { tracker = (c.before.before.apply-answer.ensures i).tracker; ids = replicate 256 0; kinds = replicate 256 0; len = 0; printed = c.one_more.ensures i }
 
 pub applied-spec : {M : Type 1} → statement M
 applied-spec = tie.close (tie.spec apply-answer-requires one-more-requires returns)
