@@ -11,4 +11,4 @@ use Rattle.tracker.specs.contracts.ChangeLog as G
 use Rattle.tracker.proofs.ChangeLog.TheLaws as G'
 
 pub log_sized : {vs : List Val} (l : ChangeLog) → Is G.the_row l vs → length l.entries ≡ 256
-log_sized {vs} l p = sym (length-map l.entries _) ∙ (LL.owed G.the_type G'.the_laws l vs p).0.1.0.1
+log_sized {vs} l p = (LL.owed G.the_type G'.the_laws l vs p).0.1.0.1

@@ -1,15 +1,11 @@
 -- `changes::change` meets its contract: the id is not 0, and each callee's answer goes into the next. Assumes nothing.
 use borrow.Author.Tests.{eq-eqb, ne_eqb}
-use borrow.Author.Rules.{rules}
 use Rattle.changes.specs.Change.{change_in}
 use Rattle.changes.proofs.change.Goals as goal
 
--- TODO one-more-requires : tie.Need-one-more-requires
--- one-more-requires c κs = search rules
-
 pub returns-then-id-eq0 : goal.returns-then-id-eq0
 unfolding change_in
-returns-then-id-eq0 c = rw (eq-eqb _ 0 c.if-id-eq0.true, c.one_more_lem.ensures)
+returns-then-id-eq0 c = rw (eq-eqb _ 0 c.if-id-eq0.true, c.one_more.ensures)
 
 pub returns : goal.returns
 unfolding change_in

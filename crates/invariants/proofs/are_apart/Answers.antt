@@ -5,4 +5,4 @@ use Rattle.invariants.specs.declared.Found.{Found}
 use Rattle.invariants.proofs.are_apart.Goals as goal
 
 pub returns : goal.returns
-returns c = ap (λ (o : Found). not o.some) c.first_where_lem.ensures
+returns c = ap (λ (o : Found). not o.some) c.first_where-both.ensures

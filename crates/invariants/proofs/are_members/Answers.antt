@@ -5,4 +5,4 @@ use Rattle.invariants.proofs.are_members.Goals as goal
 
 pub returns : goal.returns
 returns c = let g = c.args in
-    members_say (held g.t2) g.conf c.union-voters.ensures c.union-others.ensures c.union-all.ensures c.first_where_lem.ensures
+    members_say (held g.ids) g.conf c.union-voters.ensures c.union-others.ensures c.union-all.ensures c.first_where-out.ensures

@@ -5,5 +5,5 @@ use Rattle.invariants.proofs.check_each_staged.Goals as goal
 
 pub returns : goal.returns
 returns c = let a = c.args in
-    staged_say (take a.n a.ids.now) (take a.o a.outgoing.now) (take a.g a.staged.now) c.first_where_lem.ensures c.fault-v.ensures
+    staged_say (take a.n a.ids.now) (take a.o a.outgoing.now) (take a.g a.staged.now) c.first_where.ensures c.fault-v.ensures
     c.first_where-2.ensures c.fault-w.ensures c.sooner.ensures

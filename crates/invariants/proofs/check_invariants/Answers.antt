@@ -6,14 +6,14 @@ use Rattle.invariants.proofs.check_invariants.Goals as goal
 
 pub returns-then-v-ne-ACCEPTED : goal.returns-then-v-ne-ACCEPTED
 returns-then-v-ne-ACCEPTED c = let g = c.args in
-    at-voters (held g.t2) (conf_of g.conf) c.check_voters-v.ensures c.if-v-ne-ACCEPTED.true
+    at-voters (held g.ids) (conf_of g.conf) c.check_voters-v.ensures c.if-v-ne-ACCEPTED.true
 
 pub returns-then-v-ne-ACCEPTED-2 : goal.returns-then-v-ne-ACCEPTED-2
 returns-then-v-ne-ACCEPTED-2 c = let g = c.args in
-    at-learners (held g.t2) (conf_of g.conf) c.check_voters-v.ensures c.if-v-ne-ACCEPTED.false
+    at-learners (held g.ids) (conf_of g.conf) c.check_voters-v.ensures c.if-v-ne-ACCEPTED.false
     c.check_learners-v.ensures c.if-v-ne-ACCEPTED-2.true
 
 pub returns : goal.returns
 returns c = let g = c.args in
-    at_rest (held g.t2) (conf_of g.conf) c.check_voters-v.ensures c.if-v-ne-ACCEPTED.false
+    at_rest (held g.ids) (conf_of g.conf) c.check_voters-v.ensures c.if-v-ne-ACCEPTED.false
     c.check_learners-v.ensures c.if-v-ne-ACCEPTED-2.false c.check_staged.ensures

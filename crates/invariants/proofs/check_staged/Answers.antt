@@ -5,9 +5,9 @@ use Rattle.invariants.proofs.check_staged.Goals as goal
 
 pub returns-then-v-ne-ACCEPTED : goal.returns-then-v-ne-ACCEPTED
 returns-then-v-ne-ACCEPTED c = let a = c.args in
-    staged-stops (take a.n a.ids.now) (take a.o a.outgoing.now) (take a.g a.staged.now) a.auto-leave c.check_each_staged-v.ensures c.if-v-ne-ACCEPTED.true
+    staged-stops (take a.n a.ids.now) (take a.o a.outgoing.now) (take a.g a.staged.now) a.auto_leave c.check_each_staged-v.ensures c.if-v-ne-ACCEPTED.true
 
 pub returns : goal.returns
 returns c = let a = c.args in
-    staged_goes (take a.n a.ids.now) (take a.o a.outgoing.now) (take a.g a.staged.now) a.auto-leave c.check_each_staged-v.ensures c.if-v-ne-ACCEPTED.false
+    staged_goes (take a.n a.ids.now) (take a.o a.outgoing.now) (take a.g a.staged.now) a.auto_leave c.check_each_staged-v.ensures c.if-v-ne-ACCEPTED.false
     c.is_past.ensures c.is_past-2.ensures c.check_single.ensures

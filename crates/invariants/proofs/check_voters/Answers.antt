@@ -5,5 +5,5 @@ use Rattle.invariants.proofs.check_voters.Goals as goal
 
 pub returns : goal.returns
 returns c = let g = c.args in
-    voters_say (take g.n g.ids.now) (take g.i g.incoming.now) (take g.o g.outgoing.now) c.first_where_lem.ensures c.fault-v.ensures
+    voters_say (take g.n g.ids.now) (take g.i g.incoming.now) (take g.o g.outgoing.now) c.first_where.ensures c.fault-v.ensures
     c.first_where-2.ensures c.fault-w.ensures c.sooner.ensures

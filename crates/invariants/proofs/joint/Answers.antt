@@ -4,4 +4,4 @@ use mathlib.Core.Bool.{not}
 use Rattle.invariants.proofs.joint.Goals as goal
 
 pub returns : goal.returns
-returns c = ap not c.«is_empty_lem».ensures
+returns c = ap not c.is_empty.ensures

@@ -8,7 +8,7 @@ use Rattle.changes.proofs.Log.{says-end, says_out, says-next}
 use Rattle.changes.proofs.pending.says.Goals as goal
 
 pub loop-i-init : goal.loop-i-init
-loop-i-init c = record { sized = log_sized c.args.t1 c.well_formed.0; same = refl }
+loop-i-init c = record { sized = log_sized c.args.log c.well_formed.0; same = refl }
 
 pub returns-then-count-i : goal.returns-then-count-i
 returns-then-count-i c = says-end c.loop-i.invariant c.if-count-i.true
