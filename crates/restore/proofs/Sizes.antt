@@ -19,10 +19,10 @@ use Rattle.restore.proofs.Changes.TheLaws as C'
 
 module _ {vs : List Val} (c : Changes) (p : Is C.the_row c vs) where
   pub ids_sized : length c.ids ≡ 256
-  ids_sized = sym (length-map c.ids _) ∙ (LL.owed C.the_type C'.the_laws c vs p).0.1.0.1
+  ids_sized = (LL.owed C.the_type C'.the_laws c vs p).0.1.0.1
 
   pub kinds_sized : length c.kinds ≡ 256
-  kinds_sized = sym (length-map c.kinds _) ∙ (LL.owed C.the_type C'.the_laws c vs p).1.0.1.0.1
+  kinds_sized = (LL.owed C.the_type C'.the_laws c vs p).1.0.1.0.1
 
   -- a list that can be read has its places in both
   pub ids-room : {cs : List Change} → Listed c cs → c.len ≤ length c.ids

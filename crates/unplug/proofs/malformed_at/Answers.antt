@@ -1,0 +1,18 @@
+-- `unplug::malformed_at` meets its contract: the part that is lent is the set at that place. Assumes nothing.
+use Prim.Native.Nat.{◌+◌, ◌-◌}
+use mathlib.Core.Path.{◌≡◌}
+use native.Mathlib.Omega.{arith}
+use Rattle.unplug.proofs.WordBlocks.{part_words}
+use borrow.Author.Rules.{rules}
+use Rattle.unplug.proofs.malformed_at.Goals as goal
+
+-- TODO part-malformed-in-start : tie.Need-slice-bounds-malformed-in-start
+-- part-malformed-in-start c = search rules
+
+-- TODO part-malformed-in-end : tie.Need-slice-bounds-malformed-in-end
+-- part-malformed-in-end c = search rules
+
+pub returns : goal.returns
+returns c = let a = c.args in
+    let long : a.k + 64 - a.k ≡ 64 = omega arith in
+    rw (long, part_words 64 a.k a.s.now c.requires, c.word.ensures) at c.malformed_in.ensures
