@@ -1,6 +1,5 @@
 -- `text::put_words` meets its contract. Assumes nothing.
 use native.Mathlib.Omega.{arith}
-use borrow.Author.Rules.{rules}
 use Rattle.text.proofs.Laws.{put_none, put_then, words_none, words-some}
 use Rattle.text.proofs.put_words.Goals as goal
 
