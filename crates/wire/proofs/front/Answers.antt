@@ -7,7 +7,6 @@ use Rattle.wire.proofs.Reading.{read-start, read-cut, read-value, read_next, uni
 use Rattle.wire.proofs.front.Goals as goal
 
 -- the byte that was read
-
 byte : (c : goal.Else-b-lt128) → get_or c.args.bytes.now c.loop-i.i 0 < 256
 byte c = omega (arith, c.shared_slice_known-in-loop-i-1.given c.loop-i.i)
 

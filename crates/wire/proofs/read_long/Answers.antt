@@ -8,14 +8,7 @@ use Rattle.wire.specs.declared.Varint.{Varint}
 use Rattle.wire.proofs.Reading.{read_on, next-within}
 use Rattle.wire.proofs.read_long.Goals as goal
 
--- TODO part-front-start : tie.Need-slice-bounds-front-start
--- part-front-start c = search rules
-
--- TODO part-front-end : tie.Need-slice-bounds-front-end
--- part-front-end c = search rules
-
 -- the struct with its place moved
-
 on : (c : goal.After-struct_known-1) → let g = c.args in let v = c.front-v.result in
     ◌≡◌ {A = Varint} (record { fault = v.fault; value = v.value; next = g.at + v.next }) (varint_at g.bytes.now g.at)
 on c = let g = c.args in read_on g.bytes.now g.at c.front-v.ensures
