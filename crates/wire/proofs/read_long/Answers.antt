@@ -2,7 +2,6 @@
 use Prim.Native.Nat.{◌+◌}
 use mathlib.Core.Path.{◌≡◌}
 use native.Mathlib.Omega.{arith}
-use borrow.Author.Rules.{rules}
 use Rattle.wire.specs.Varints.{varint_at}
 use Rattle.wire.specs.declared.Varint.{Varint}
 use Rattle.wire.proofs.Reading.{read_on, next-within}

@@ -4,7 +4,6 @@ use Prim.Native.Nat.{◌+◌, ◌-◌, ◌*◌}
 use Rattle.rules.specs.Wire.{bytes}
 use Rattle.confstate.specs.Words.{message_in}
 use native.Mathlib.Omega.{arith}
-use borrow.Author.Rules.{rules}
 use Rattle.confstate.proofs.read.length_field.Goals as goal
 
 pub returns-then-v-ne0 : goal.returns-then-v-ne0

@@ -1,6 +1,5 @@
 -- `confstate::read::read` meets its contract. Assumes nothing.
 use Rattle.confstate.proofs.Answers.{too_short, front_cleared, accepted, refusing}
-use borrow.Author.Rules.{rules}
 use Rattle.confstate.proofs.read.read.Goals as goal
 
 pub returns-then-conf_state-lt-WORDS : goal.returns-then-conf_state-lt-WORDS

@@ -4,7 +4,6 @@ use Rattle.confstate.proofs.Fields.{misnumbered_no, misnumbered_some, past_5, va
 use Prim.Native.Nat.{◌+◌, ◌-◌, ◌*◌}
 use Rattle.rules.specs.Wire.{varint}
 use Rattle.confstate.specs.Words.{message_in}
-use borrow.Author.Rules.{rules}
 use Rattle.confstate.proofs.read.varint_field.Goals as goal
 
 pub returns-then-v-ne0 : goal.returns-then-v-ne0

@@ -1,7 +1,6 @@
 -- `write::put_list` meets its contract: nothing, or the tag, the length and the numbers. Assumes nothing.
 use mathlib.Core.Path.{refl}
 use native.Mathlib.Omega.{arith}
-use borrow.Author.Rules.{rules}
 use Rattle.text.proofs.Laws.{put-length}
 use Rattle.confstate.proofs.Sizing.{block-count, block_lent}
 use Rattle.confstate.proofs.Writing.{listing_none, listing-room, listing-first, listing-next, listing-put}
