@@ -1,7 +1,7 @@
 -- Laws of the lines' text. Assumes nothing.
 use Prim.Native.Nat.{ℕ}
 use mathlib.Core.Path.{◌≡◌, refl, ap, sym, ◌∙◌}
-use mathlib.Core.Bool.{Bool, true, false, beq, ◌&&◌, ◌||◌, not, cond}
+use mathlib.Core.Bool.{Bool, true, false, beq, ◌||◌, cond}
 use mathlib.Core.List.{List, [], ◌++◌}
 use Rattle.text.specs.Text.{each, ascii}
 use Rattle.comparison.specs.Compare.{same, standing_text, line, line_if, flag_line}
@@ -16,26 +16,6 @@ or_then a b h e = rw h (e ∙ h)
 
 pub or_else : (a b : Bool) {r : Bool} → a ≡ false → r ≡ b → r ≡ (a || b)
 or_else a b h e = rw h e
-
-pub and_then : (a b : Bool) {r : Bool} → a ≡ true → r ≡ b → r ≡ (a && b)
-and_then a b h e = rw h e
-
-pub and_else : (a b : Bool) {r : Bool} → a ≡ false → r ≡ a → r ≡ (a && b)
-and_else a b h e = rw h (e ∙ h)
-
--- ** Two standings
-
-module _ (s t : Standing) {p q : Bool} (f : p ≡ (beq s.voters t.voters && beq s.outgoing t.outgoing)) (g : q ≡ (p && beq s.learners t.learners)) where
-  three : q ≡ (beq s.voters t.voters && beq s.outgoing t.outgoing && beq s.learners t.learners)
-  three = g ∙ ap (λ (x : Bool). x && beq s.learners t.learners) f
-
-  pub same_yet : q ≡ true → beq s.next t.next ≡ same s t
-  same_yet h =
-      and_then (beq s.voters t.voters && beq s.outgoing t.outgoing && beq s.learners t.learners) (beq s.next t.next) (sym three ∙ h) refl
-
-  pub same_not : q ≡ false → q ≡ same s t
-  same_not h =
-      and_else (beq s.voters t.voters && beq s.outgoing t.outgoing && beq s.learners t.learners) (beq s.next t.next) (sym three ∙ h) three
 
 -- ** The names of the sets
 

@@ -1,6 +1,5 @@
 -- `comparison::put_refused` meets its contract: its pieces, one after the other. Assumes nothing.
 use native.Mathlib.Omega.{arith}
-use borrow.Author.Rules.{rules}
 use Rattle.text.proofs.Laws.{rest_all, rest_put, rest-last}
 use Rattle.comparison.specs.Compare.{refused_text}
 use Rattle.comparison.proofs.put_refused.Goals as goal

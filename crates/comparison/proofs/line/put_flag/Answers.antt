@@ -1,6 +1,5 @@
 -- `comparison::line::put_flag` meets its contract: nothing, or one of the two texts. Assumes nothing.
 use native.Mathlib.Omega.{arith}
-use borrow.Author.Rules.{rules}
 use Rattle.text.proofs.Laws.{put_none}
 use Rattle.comparison.proofs.Lines.{flag_same, flag-set, flag_cleared}
 use Rattle.comparison.proofs.line.put_flag.Goals as goal

@@ -1,6 +1,5 @@
 -- `comparison::line::put_line` meets its contract: its pieces, one after the other. Assumes nothing.
 use native.Mathlib.Omega.{arith}
-use borrow.Author.Rules.{rules}
 use Rattle.text.proofs.Laws.{rest_all, rest_put, rest-last}
 use Rattle.comparison.specs.Compare.{line}
 use Rattle.comparison.proofs.line.put_line.Goals as goal

@@ -1,5 +1,4 @@
 -- `comparison::walk::is_at` meets its contract: the 64 places of the list, as they are lent. Assumes nothing.
-use borrow.Author.Rules.{rules}
 use Rattle.comparison.proofs.Places.{stands_in_lem}
 use Rattle.comparison.proofs.walk.is_at.Goals as goal
 
