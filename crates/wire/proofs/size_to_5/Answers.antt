@@ -6,9 +6,6 @@ use Rattle.wire.proofs.size_to_5.Goals as goal
 pub returns-then-n-lt16384 : goal.returns-then-n-lt16384
 returns-then-n-lt16384 c = size-more 1 8 c.args.n refl c.requires.0 c.if-n-lt16384.true
 
-pub returns-then-n-lt2097152 : goal.returns-then-n-lt2097152
-returns-then-n-lt2097152 c = size-more 2 7 c.args.n refl c.if-n-lt16384.false c.if-n-lt2097152.true
-
 pub returns-then-n-lt268435456 : goal.returns-then-n-lt268435456
 returns-then-n-lt268435456 c = size-more 3 6 c.args.n refl c.if-n-lt2097152.false c.if-n-lt268435456.true
 
