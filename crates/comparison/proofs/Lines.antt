@@ -1,7 +1,7 @@
 -- Laws of the lines' text. Assumes nothing.
 use Prim.Native.Nat.{ℕ}
 use mathlib.Core.Path.{◌≡◌, refl, ap, sym, ◌∙◌}
-use mathlib.Core.Bool.{Bool, true, false, beq, ◌&&◌, ◌||◌, not, cond}
+use mathlib.Core.Bool.{Bool, true, false, beq, ◌||◌, cond}
 use mathlib.Core.List.{List, [], ◌++◌}
 use Rattle.text.specs.Text.{each, ascii}
 use Rattle.comparison.specs.Compare.{same, standing_text, line, line_if, flag_line}
@@ -17,54 +17,20 @@ or_then a b h e = rw h (e ∙ h)
 pub or_else : (a b : Bool) {r : Bool} → a ≡ false → r ≡ b → r ≡ (a || b)
 or_else a b h e = rw h e
 
-pub and_then : (a b : Bool) {r : Bool} → a ≡ true → r ≡ b → r ≡ (a && b)
-and_then a b h e = rw h e
-
-pub and_else : (a b : Bool) {r : Bool} → a ≡ false → r ≡ a → r ≡ (a && b)
-and_else a b h e = rw h (e ∙ h)
-
--- ** Two standings
-
-module _ (s t : Standing) {p q : Bool} (f : p ≡ (beq s.voters t.voters && beq s.outgoing t.outgoing)) (g : q ≡ (p && beq s.learners t.learners)) where
-  three : q ≡ (beq s.voters t.voters && beq s.outgoing t.outgoing && beq s.learners t.learners)
-  three = g ∙ ap (λ (x : Bool). x && beq s.learners t.learners) f
-
-  pub same_yet : q ≡ true → beq s.next t.next ≡ same s t
-  same_yet h =
-      and_then (beq s.voters t.voters && beq s.outgoing t.outgoing && beq s.learners t.learners) (beq s.next t.next) (sym three ∙ h) refl
-
-  pub same_not : q ≡ false → q ≡ same s t
-  same_not h =
-      and_else (beq s.voters t.voters && beq s.outgoing t.outgoing && beq s.learners t.learners) (beq s.next t.next) (sym three ∙ h) three
-
 -- ** The names of the sets
 
 module _ (is-in later : Bool) (name : List ℕ) where
-  pub name_none : not is-in ≡ true → name_text is-in later name ≡ []
+  pub name_none : is-in ≡ false → name_text is-in later name ≡ []
   unfolding name_text
-  name_none h = by is-in h
-    where
-      by : (b : Bool) → not b ≡ true → cond b (cond later (ascii "+") [] ++ name) [] ≡ []
-      by true h = cc
-      by false h = refl
+  name_none h = rw h
 
-  pub name_later : not is-in ≡ false → later ≡ true → name_text is-in later name ≡ ascii "+" ++ name
+  pub name_later : is-in ≡ true → later ≡ true → name_text is-in later name ≡ ascii "+" ++ name
   unfolding name_text
-  name_later h k = by is-in h later k
-    where
-      by : (b : Bool) → not b ≡ false → (d : Bool) → d ≡ true → cond b (cond d (ascii "+") [] ++ name) [] ≡ ascii "+" ++ name
-      by true h true k = refl
-      by true h false k = cc
-      by false h d k = cc
+  name_later h k = rw (h, k)
 
-  pub name_first : not is-in ≡ false → later ≡ false → name_text is-in later name ≡ name
+  pub name_first : is-in ≡ true → later ≡ false → name_text is-in later name ≡ name
   unfolding name_text
-  name_first h k = by is-in h later k
-    where
-      by : (b : Bool) → not b ≡ false → (d : Bool) → d ≡ false → cond b (cond d (ascii "+") [] ++ name) [] ≡ name
-      by true h true k = cc
-      by true h false k = refl
-      by false h d k = cc
+  name_first h k = rw (h, k)
 
 -- the names, each where the id is in the set, and after a `+` where it is in one before
 abbrev pub names_of : Standing → Bool → Bool → List ℕ
@@ -73,7 +39,7 @@ names_of s third fourth =
     ++ (name_text s.outgoing s.voters (ascii "voters_outgoing") ++ (name_text s.learners third (ascii "learners") ++ name_text s.next fourth (ascii "learners_next")))
 
 abbrev NamesText : Bool → Bool → Bool → Bool → Type 0
-NamesText a b c d = not (a || b || c || d) ≡ false → standing_text (sets a b c d) ≡ names_of (sets a b c d) (a || b) (a || b || c)
+NamesText a b c d = (a || b || c || d) ≡ true → standing_text (sets a b c d) ≡ names_of (sets a b c d) (a || b) (a || b || c)
 
 names_text : (a b c d : Bool) → NamesText a b c d
 unfolding standing_text name_text each
@@ -94,7 +60,7 @@ names_text false false true false h = refl
 names_text false false false true h = refl
 names_text false false false false h = cc
 
-none_text : (a b c d : Bool) → not (a || b || c || d) ≡ true → standing_text (sets a b c d) ≡ ascii "none"
+none_text : (a b c d : Bool) → (a || b || c || d) ≡ false → standing_text (sets a b c d) ≡ ascii "none"
 unfolding standing_text
 none_text true b c d h = cc
 none_text false true c d h = cc
@@ -109,12 +75,12 @@ module _ (s : Standing) {third fourth any : Bool} (f : third ≡ (s.voters || s.
   in_any : any ≡ (s.voters || s.outgoing || s.learners || s.next)
   in_any = h ∙ ap (λ (x : Bool). x || s.next) up_to_three
 
-  pub text_none : not any ≡ true → standing_text s ≡ ascii "none"
-  text_none e = none_text s.voters s.outgoing s.learners s.next (sym (ap not in_any) ∙ e)
+  pub text_none : any ≡ false → standing_text s ≡ ascii "none"
+  text_none e = none_text s.voters s.outgoing s.learners s.next (sym in_any ∙ e)
 
-  pub text_names : not any ≡ false → standing_text s ≡ names_of s third fourth
+  pub text_names : any ≡ true → standing_text s ≡ names_of s third fourth
   text_names e =
-      names_text s.voters s.outgoing s.learners s.next (sym (ap not in_any) ∙ e)
+      names_text s.voters s.outgoing s.learners s.next (sym in_any ∙ e)
       ∙ (ap (λ (x : Bool). names_of s x (s.voters || s.outgoing || s.learners)) (sym f) ∙ ap (λ (x : Bool). names_of s third x) (sym up_to_three))
 
 -- ** The line of an id

@@ -1,6 +1,6 @@
 -- Laws of the two messages that are read, and of what is printed and answered of them. Assumes nothing.
 use Prim.Native.Nat.{ℕ, ◌+◌, ◌≤◌, ◌<◌}
-use mathlib.Core.Path.{◌≡◌, refl, ap, sym, subst, ◌∙◌}
+use mathlib.Core.Path.{◌≡◌, ap, sym, subst, ◌∙◌}
 use mathlib.Core.Bool.{Bool, true, false, ◌||◌, not, cond}
 use mathlib.Core.List.{List, ◌++◌}
 use native.Mathlib.Omega.{arith}
@@ -27,21 +27,21 @@ module _ (readable : Bool) (l m : List ℕ) {x y : List ℕ} where
   not-read : 32 ≡ refusal readable l m → BothRead readable l m 32 x y
   not-read e = record { told = e; first-sets = λ z. absurd (omega (arith, z)); second-sets = λ z. absurd (omega (arith, z)) }
 
-  pub unreadable : not readable ≡ true → BothRead readable l m 32 x y
+  pub unreadable : readable ≡ false → BothRead readable l m 32 x y
   unfolding refusal
   unreadable h = not-read (rw h)
 
-  module _ (h : not readable ≡ false) where
+  module _ (h : readable ≡ true) where
     pub first-long : 32768 < length l → BothRead readable l m 32 x y
     unfolding refusal
     first-long k = not-read (rw (h, lt-ltb 32768 (length l) k))
 
-    pub second-long : length l ≤ 32768 → 32768 < length m → BothRead readable l m 32 x y
+    pub second_long : length l ≤ 32768 → 32768 < length m → BothRead readable l m 32 x y
     unfolding refusal
-    second-long j k = not-read (rw (h, le-ltb 32768 (length l) j, lt-ltb 32768 (length m) k))
+    second_long j k = not-read (rw (h, le-ltb 32768 (length l) j, lt-ltb 32768 (length m) k))
 
 -- the files' own refusals, or none
-module _ (readable : Bool) (l m : List ℕ) (h : not readable ≡ false) (j : length l ≤ 32768) (k : length m ≤ 32768) {n : ℕ} {x : List ℕ} (f : SetsRead l n x) where
+module _ (readable : Bool) (l m : List ℕ) (h : readable ≡ true) (j : length l ≤ 32768) (k : length m ≤ 32768) {n : ℕ} {x : List ℕ} (f : SetsRead l n x) where
   numbers : refusal readable l m ≡ cond (eqb (number_read (read l)) 0) (number_read (read m)) (number_read (read l))
   unfolding refusal
   numbers = rw (h, le-ltb 32768 (length l) j, le-ltb 32768 (length m) k)
@@ -122,14 +122,6 @@ module _ (a b : List ℕ) (f : Ascending a) (g : Ascending b) (room : ℕ) where
   pub room-counted : {none new : List ℕ} {n : ℕ} → Put none 0 (lines (message_in a) (message_in b)) new n → leb n room ≡ leb (length (lines (message_in a) (message_in b))) room
   room-counted h = ap (λ (k : ℕ). leb k room) (put_count h (omega (arith, size)))
 
-not-true : (b : Bool) → not b ≡ true → b ≡ false
-not-true true e = sym e
-not-true false e = refl
-
-not-false : (b : Bool) → not b ≡ false → b ≡ true
-not-false true e = refl
-not-false false e = sym e
-
 -- ** Two slices: a message that is refused; lines that do not fit; lines that fit
 
 module _ {l m x y : List ℕ} {n : ℕ} (r : BothRead true l m n x y) where
@@ -146,9 +138,9 @@ module _ {l m x y : List ℕ} {n : ℕ} (r : BothRead true l m n x y) where
     fit : fits ≡ leb (length (lines_read l m)) (length old)
     fit = f ∙ ap (λ (t : List ℕ). leb (length t) (length old)) (lines_same r z)
 
-    module _ (h : not fits ≡ true) where
+    module _ (h : fits ≡ false) where
       longer : length old < length (lines_read l m)
-      longer = leb-false (length (lines_read l m)) (length old) (sym fit ∙ not-true fits h)
+      longer = leb-false (length (lines_read l m)) (length old) (sym fit ∙ h)
 
       pub answer_none : 4294967396 ≡ compare_answer l m (length old)
       unfolding compare_answer
@@ -158,9 +150,9 @@ module _ {l m x y : List ℕ} {n : ℕ} (r : BothRead true l m n x y) where
       unfolding compare_leaves
       leaves_none = rw (both_accepted r z, lt-ltb (length old) (length (lines_read l m)) longer)
 
-    module _ (h : not fits ≡ false) (room : length old ≤ last) {out : List ℕ} {p : ℕ} (g : Put old 0 (lines (message_in x) (message_in y)) out p) where
+    module _ (h : fits ≡ true) (room : length old ≤ last) {out : List ℕ} {p : ℕ} (g : Put old 0 (lines (message_in x) (message_in y)) out p) where
       within : length (lines_read l m) ≤ length old
-      within = leb-true (length (lines_read l m)) (length old) (sym fit ∙ not-false fits h)
+      within = leb-true (length (lines_read l m)) (length old) (sym fit ∙ h)
 
       whole : (out ≡ lines_read l m ++ drop (length (lines_read l m)) old) × (p ≡ length (lines_read l m))
       whole = put_whole room (rw (lines_same r z) at g) within

@@ -78,6 +78,7 @@ fn have_room(a: &[u64], b: &[u64], room: usize) -> bool
 }
 
 // Reads both messages, each list as a set: 0, or the refusal. 32 for either file comes before any fault in one of them.
+#[tactic(auto, using(crate::proofs::Messages::second_long))]
 fn read_both(readable: bool, first: &[u8], second: &[u8], a: &mut [u64], b: &mut [u64]) -> u64
     requires { (length a.old ≡ 261) × (length b.old ≡ 261) }
     ensures { BothRead readable first.now second.now result a.new b.new }

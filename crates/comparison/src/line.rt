@@ -5,7 +5,7 @@ ghost use Rattle.comparison.specs.Compare.{same as sameOf, standing_text, line, 
 ghost use Rattle.comparison.specs.Steps.{name_text};
 
 // The sets that an id is in.
-#[derive(Drop)]
+#[derive(Clone, Copy)]
 pub struct Standing {
     pub voters: bool,
     pub outgoing: bool,

@@ -8,7 +8,7 @@ use crate::line::Standing;
 use confstate::{LEARNERS, NEXT, OUTGOING, VOTERS};
 
 // Where the walk is in each list of a message.
-#[derive(Drop)]
+#[derive(Clone, Copy)]
 pub struct Places {
     pub voters: usize,
     pub outgoing: usize,
@@ -17,7 +17,7 @@ pub struct Places {
 }
 
 // An id, if there is one.
-#[derive(Drop)]
+#[derive(Clone, Copy)]
 pub struct Found {
     pub some: bool,
     pub id: u64,

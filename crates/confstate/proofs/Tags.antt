@@ -10,7 +10,7 @@ use lib.ListN.{length, drop, length-drop, drop_of_length-le}
 use lib.Seq.{drop-drop}
 use Rattle.rules.specs.State.{ConfState}
 use Rattle.rules.specs.Apply.{no_conf_state}
-use Rattle.rules.specs.Wire.{Found, bad, found, Payload, fixed, bytes, single, fixed_in, length_in, payload_in, Field, numbered, held, tagged, varint_in, field_in, row}
+use Rattle.rules.specs.Wire.{Found, bad, found, Payload, fixed, single, fixed_in, length_in, payload_in, Field, numbered, held, tagged, varint_in, field_in, row}
 use Rattle.rules.specs.Message.{Few64, Read, refused, taken, entered, go_on, read_row, read}
 use Rattle.rules.proofs.Refusals.{field-named, entered-named}
 use Rattle.rules.proofs.Lists64.{entered-few, few_none}

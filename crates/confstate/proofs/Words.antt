@@ -9,7 +9,7 @@ use lib.ListN.{length, take, drop, get_or, set, replicate, length-append, length
 use lib.Seq.{take_at, take-take, drop_at, get_or_at, get_or-take, get_or-drop, set_at, append_snoc, take-append_seam}
 use Rattle.rules.specs.State.{ConfState}
 use Rattle.rules.specs.Message.{Few64, with_voters, with_learners, with_outgoing, with_next, with_flag}
-use Rattle.confstate.specs.Words.{list_words, flag_word, conf_state_words, at, list_in, message_in}
+use Rattle.confstate.specs.Words.{list_words, flag_word, conf_state_words, list_in, message_in}
 use Rattle.confstate.specs.Steps.{Holding, Listing}
 
 -- ** A list in its 65 words

@@ -1,6 +1,6 @@
 -- What the functions under the reader give, in the rules' words (crates/rules/specs/Wire.antt, Message.antt): of something refused only its number.
 -- Assumes nothing.
-use Rattle.std.specs.Prelude.{ℕ, ◌+◌, ◌-◌, ◌/◌, ◌%◌, ◌≤◌, ◌≡◌, ◌&&◌, cond, List, leb, ltb, length, drop}
+use Rattle.std.specs.Prelude.{ℕ, ◌+◌, ◌/◌, ◌%◌, ◌≤◌, ◌≡◌, ◌&&◌, cond, List, leb, ltb, length, drop}
 use Rattle.rules.specs.State.{ConfState}
 use Rattle.rules.specs.Wire.{Found, bad, found, Payload, numbered, payload_in, varint_in}
 use Rattle.rules.specs.Message.{Few64, Numbers, faulty, all, Read, refused, taken, entered}

@@ -229,7 +229,8 @@ fn packed(bytes: &[u8], list: &mut [u64]) -> u64
             continue;
         }
         let v = wire::read_varint(bytes, p);
-        if v.fault == 28 {
+        let cut = v.fault == 28;
+        if cut {
             return 28;
         }
         p = v.next;
@@ -243,7 +244,8 @@ fn packed(bytes: &[u8], list: &mut [u64]) -> u64
     if over {
         return 29;
     }
-    if 64 < n {
+    let too_many = 64 < n;
+    if too_many {
         return 30;
     }
     list[64] = n as u64;

@@ -9,7 +9,7 @@ ghost use Rattle.confstate.specs.Sizes.{refusal_of, sizes_of, field_size, total_
 use crate::{FLAG, LEARNERS, NEXT, OUTGOING, VOTERS, WORDS};
 
 // How many bytes the numbers of each list take.
-#[derive(Drop)]
+#[derive(Clone, Copy)]
 struct Sizes {
     voters: usize,
     learners: usize,

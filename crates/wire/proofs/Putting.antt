@@ -56,6 +56,9 @@ pub size-more : (k j n : ℕ) → k + j ≡ 9 → 128 ^ k ≤ n → n < 128 ^ su
 unfolding varint_of
 size-more k j n e a h = sym (ap (λ (m : ℕ). length (groups (suc m) n)) (sym e) ∙ groups-count k j n a h)
 
+pub size_of_3 : (n : ℕ) → 16384 ≤ n → n < 2097152 → 3 ≡ length (varint_of n)
+size_of_3 n a h = size-more 2 7 n refl a h
+
 -- the loop that puts the bytes of n has come to place p
 pub record Putting (old : List ℕ) (at n : ℕ) (out : List ℕ) (p m : ℕ) : Type 0 where
   pub rest : List ℕ

@@ -156,6 +156,7 @@ pub fn size(n: u64) -> usize
 }
 
 // Of a number of two to five bytes.
+#[tactic(auto, using(crate::proofs::Putting::size_of_3))]
 fn size_to_5(n: u64) -> usize
     requires { (128 ≤ n) × (n < 2 ^ 35) }
     ensures { result ≡ length (varint_of n) }

@@ -1,0 +1,20 @@
+-- `write::put_packed` meets its contract: what is left from `p` on are the numbers from `i` on. Assumes nothing.
+use native.Mathlib.Omega.{arith}
+use borrow.Author.Rules.{rules}
+use Rattle.confstate.proofs.Writing.{packs_start, packs_length, packs_room, packs_next, packs_end}
+use Rattle.confstate.proofs.write.put_packed.Goals as goal
+
+pub loop-i-init : goal.loop-i-init
+loop-i-init c = packs_start (omega arith) (search rules)
+
+pub put_varint-p-requires : goal.put_varint-p-requires
+put_varint-p-requires c = search (rules, packs_room)
+
+pub loop-i-preserved : goal.loop-i-preserved
+loop-i-preserved c = search (rules, packs_next)
+
+pub shape_of-out : goal.shape_of-out
+shape_of-out c = search (rules, packs_length)
+
+pub returns : goal.returns
+returns c = search (rules, packs_end)
