@@ -4,7 +4,10 @@
 
 ghost use Rattle.std.specs.Prelude.{◌≤◌, length};
 
-use libc::{STDERR_FILENO, STDOUT_FILENO};
+use std::env::{Env, FillError};
+use std::fs::File;
+use std::io;
+use std::io::{Error, ErrorKind, Write};
 use streams::Input;
 
 // A file is read one byte further than it may be long.
@@ -15,55 +18,71 @@ const MAX_NAME: usize = 4096;
 
 const MAX_SENTENCE: usize = MAX_NAME + 64;
 
-fn main() {
-    if os::arg_count() != 3 {
-        io::write_all(STDERR_FILENO, b"usage: compare FILE FILE\n");
+// Linux's number for a name that is too long.
+const NAME_TOO_LONG: i32 = 36;
+
+fn main(rt: HostRuntime) {
+    if !is_given(rt, 2) || is_given(rt, 3) {
+        let _ = rt.stderr().write_all(b"usage: compare FILE FILE\n");
         return;
     }
     let mut first = [0u8; ROOM];
     let mut second = [0u8; ROOM];
-    let a = read_file(1, &mut first);
-    let b = read_file(2, &mut second);
+    let a = read_file(rt, 1, &mut first);
+    let b = read_file(rt, 2, &mut second);
     let m = a.len;
     let n = b.len;
-    show(!a.failed && !b.failed, &first[..m], &second[..n]);
+    show(rt, !a.failed && !b.failed, &first[..m], &second[..n]);
+}
+
+// Whether there is an argument `i`. The program's own name is argument 0.
+fn is_given(rt: HostRuntime, i: usize) -> bool {
+    let mut front = [0u8; 1];
+    match rt.arg(i, &mut front) {
+        Err(FillError::NotPresent) => false,
+        _ => true,
+    }
 }
 
 // The file that argument `i` names, read to its end or as far as `buf` goes. What fails is said.
-fn read_file(i: usize, buf: &mut [u8]) -> Input
+fn read_file(rt: HostRuntime, i: usize, buf: &mut [u8]) -> Input
     ensures { result.len ≤ length buf.new }
 {
     let mut what = [0u8; MAX_SENTENCE];
-    let n = named(i, b": refused 32", &mut what);
-    let fd = open(i);
-    if fd < 0 {
-        os::fail(&what[..n]);
-        return Input {
-            len: 0,
-            failed: true,
-        };
+    let n = named(rt, i, b": refused 32", &mut what);
+    match open(rt, i) {
+        Ok(mut file) => streams::read_input(&mut file, buf, &what[..n], &mut rt.stderr()),
+        Err(error) => {
+            streams::say(&mut rt.stderr(), &what[..n], &error);
+            Input {
+                len: 0,
+                failed: true,
+            }
+        }
     }
-    let input = streams::read_input(fd, buf, &what[..n]);
-    libc::close(fd);
-    input
 }
 
-// The file that argument `i` names, open for reading; -1 where it cannot be opened.
-fn open(i: usize) -> i32 {
+// The file that argument `i` names, open for reading. A name that is not UTF-8 cannot be opened.
+fn open(rt: HostRuntime, i: usize) -> io::Result<File> {
     let mut name = [0u8; MAX_NAME];
-    let n = os::arg(i, &mut name);
-    if os::errno() != 0 {
-        return -1;
+    let Ok(n) = rt.arg(i, &mut name) else {
+        return Err(Error::from_raw_os_error(NAME_TOO_LONG));
+    };
+    match str::from_utf8(&name[..n]) {
+        Ok(path) => File::open(&rt, path),
+        Err(_) => Err(Error::new(ErrorKind::InvalidFilename, "the name is not UTF-8")),
     }
-    os::open_read(&name[..n])
 }
 
 // `compare: `, the file's name that argument `i` is, and `then`, at the front of `out`; how many bytes that takes there.
-fn named(i: usize, then: &[u8], out: &mut [u8]) -> usize
+fn named(rt: HostRuntime, i: usize, then: &[u8], out: &mut [u8]) -> usize
     ensures { result ≤ length out.new }
 {
     let mut name = [0u8; MAX_NAME];
-    let n = os::arg(i, &mut name);
+    let n = match rt.arg(i, &mut name) {
+        Ok(n) => n,
+        Err(_) => 0,
+    };
     let p = text::put_bytes(out, 0, b"compare: ");
     let q = text::put_bytes(out, p, &name[..n]);
     let end = text::put_bytes(out, q, then);
@@ -74,56 +93,61 @@ fn named(i: usize, then: &[u8], out: &mut [u8]) -> usize
 }
 
 // Prints what two files give, and says which of them is refused. No text is longer than LONGEST (`comparison-size`, crates/comparison/proofs).
-fn show(readable: bool, first: &[u8], second: &[u8]) {
+fn show(rt: HostRuntime, readable: bool, first: &[u8], second: &[u8]) {
     let mut out = [0u8; comparison::LONGEST];
     let n = comparison::put_comparison(&mut out, 0, readable, first, second);
-    streams::write_output(STDOUT_FILENO, &out[..n], b"compare: standard output");
+    streams::write_output(
+        &mut rt.stdout(),
+        &out[..n],
+        b"compare: standard output",
+        &mut rt.stderr(),
+    );
     if readable {
-        explain(first, second);
+        explain(rt, first, second);
     }
 }
 
 // Of two files that could be read: says which are too long, or which one's message is refused.
-fn explain(first: &[u8], second: &[u8]) {
-    let first_long = is_long(1, first);
-    let second_long = is_long(2, second);
+fn explain(rt: HostRuntime, first: &[u8], second: &[u8]) {
+    let first_long = is_long(rt, 1, first);
+    let second_long = is_long(rt, 2, second);
     if first_long || second_long {
         return;
     }
-    if is_faulty(1, first) {
+    if is_faulty(rt, 1, first) {
         return;
     }
-    is_faulty(2, second);
+    is_faulty(rt, 2, second);
 }
 
 // Whether a file is too long, which is then said.
-fn is_long(i: usize, bytes: &[u8]) -> bool {
+fn is_long(rt: HostRuntime, i: usize, bytes: &[u8]) -> bool {
     if bytes.len() <= comparison::MAX_FILE {
         return false;
     }
-    say(i, b": refused 32: longer than 32768 bytes\n");
+    say(rt, i, b": refused 32: longer than 32768 bytes\n");
     true
 }
 
 // Whether a file's message is refused, which is then said.
-fn is_faulty(i: usize, bytes: &[u8]) -> bool {
+fn is_faulty(rt: HostRuntime, i: usize, bytes: &[u8]) -> bool {
     let mut words = [0u64; confstate::WORDS];
     let number = confstate::read::read(bytes, &mut words);
     if number == 28 {
-        say(i, b": refused 28: the message is cut short\n");
+        say(rt, i, b": refused 28: the message is cut short\n");
     }
     if number == 29 {
-        say(i, b": refused 29: the message is malformed\n");
+        say(rt, i, b": refused 29: the message is malformed\n");
     }
     if number == 30 {
-        say(i, b": refused 30: a list has more than 64 ids\n");
+        say(rt, i, b": refused 30: a list has more than 64 ids\n");
     }
     number != 0
 }
 
 // A sentence about a file, on standard error.
-fn say(i: usize, then: &[u8]) {
+fn say(rt: HostRuntime, i: usize, then: &[u8]) {
     let mut out = [0u8; MAX_SENTENCE];
-    let n = named(i, then, &mut out);
-    io::write_all(STDERR_FILENO, &out[..n]);
+    let n = named(rt, i, then, &mut out);
+    let _ = rt.stderr().write_all(&out[..n]);
 }

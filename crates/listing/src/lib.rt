@@ -32,8 +32,7 @@ pub struct Session {
 
 // The listing of a script goes to the front of `out`, every byte after it kept; its length comes back. 2^32 + 19 for a script over 65,536 bytes,
 // 2^32 + 20 for a listing longer than `out`, which is then as it was.
-#[unsafe(no_mangle)]
-pub extern "C" fn dimecandle_replay(script: &[u8], out: &mut [u8]) -> u64
+pub fn dimecandle_replay(script: &[u8], out: &mut [u8]) -> u64
     ensures { (result ≡ replay_answer script.now (length out.old)) × (out.new ≡ replay_leaves script.now out.old) }
 {
     if MAX_SCRIPT < script.len() {

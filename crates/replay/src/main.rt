@@ -2,15 +2,13 @@
 // those of crate listing.
 #![tactic(auto)]
 
-use libc::{STDIN_FILENO, STDOUT_FILENO};
-
 // A block of lines. It is written out where it may have no room for a line more: no line is longer than 11,520 bytes (`line-size`, crates/listing/proofs).
 const BLOCK: usize = 32768;
 
 const FULL: usize = BLOCK - 11520;
 
 // The lines of the records one after the other, as far as they can be written.
-fn list(script: &[u8]) {
+fn list(rt: HostRuntime, script: &[u8]) {
     let mut block = [0u8; BLOCK];
     let mut n = 0;
     let mut z = listing::begin();
@@ -20,14 +18,14 @@ fn list(script: &[u8]) {
         let kind = script[at];
         if listing::stops(z, kind) {
             let end = listing::put_stopped(&mut block, n, at);
-            show(&block, end);
+            show(rt, &block, end);
             return;
         }
         let t = listing::turn(&mut block, n, z, kind, listing::number_at(script, at + 1));
         n = t.at;
         z = t.session;
         if FULL < n {
-            if !show(&block, n) {
+            if !show(rt, &block, n) {
                 return;
             }
             n = 0;
@@ -36,27 +34,42 @@ fn list(script: &[u8]) {
         left -= 1;
     }
     let end = listing::put_ending(&mut block, n, at, script.len(), z);
-    show(&block, end);
+    show(rt, &block, end);
 }
 
 // The first `n` bytes of a block; whether they were written.
-fn show(block: &[u8], n: usize) -> bool {
+fn show(rt: HostRuntime, block: &[u8], n: usize) -> bool {
     if block.len() < n {
         return false;
     }
-    streams::write_output(STDOUT_FILENO, &block[..n], b"replay: standard output")
+    write(rt, &block[..n])
 }
 
-fn main() {
+// Bytes of the listing; whether they were written. What fails is said.
+fn write(rt: HostRuntime, bytes: &[u8]) -> bool {
+    streams::write_output(
+        &mut rt.stdout(),
+        bytes,
+        b"replay: standard output",
+        &mut rt.stderr(),
+    )
+}
+
+fn main(rt: HostRuntime) {
     let mut script = [0u8; listing::MAX_SCRIPT + 1];
-    let input = streams::read_input(STDIN_FILENO, &mut script, b"replay: standard input");
+    let input = streams::read_input(
+        &mut rt.stdin(),
+        &mut script,
+        b"replay: standard input",
+        &mut rt.stderr(),
+    );
     if input.failed {
         return;
     }
     let n = input.len;
     if listing::MAX_SCRIPT < n {
-        streams::write_output(STDOUT_FILENO, b"too long\n", b"replay: standard output");
+        write(rt, b"too long\n");
         return;
     }
-    list(&script[..n]);
+    list(rt, &script[..n]);
 }

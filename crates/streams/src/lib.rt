@@ -1,9 +1,13 @@
 // internal: for the programs of this repository. What a program reads and writes: an input to its end, an output in full. What the system refuses is said
-// on standard error, in the system's own words. No contract can say what is read or written, so there is none that settles it: the work of a program is in
-// functions on slices.
+// on standard error, in the system's own words. No contract can say what the system gives or takes, so the work of a program is in functions on slices; of a
+// reader and a writer whose bytes are known the contracts say that none is lost and none made up.
 #![tactic(auto)]
 
-ghost use Rattle.std.specs.Prelude.{◌≡◌, ◌+◌, ◌≤◌, length};
+ghost use Rattle.std.specs.Prelude.{◌<◌, ◌≤◌, length, take, IsTrue, IsFalse};
+ghost use Rattle.std.specs.Io.KnownBytes.{Appends, Consumes, IsAtEnd};
+
+use std::io;
+use std::io::{Cursor, ErrorKind, Read, Write};
 
 // What reading came to: how many bytes stand at the front of the buffer, and whether a read failed, which has then been said.
 #[derive(Drop)]
@@ -12,27 +16,35 @@ pub struct Input {
     pub failed: bool,
 }
 
-// Reads until the input ends or `buf` is full. `what` names the input where a read fails.
-pub fn read_input(fd: i32, buf: &mut [u8], what: &[u8]) -> Input
-    ensures { result.len ≤ length buf.new }
+// Reads until the input ends or `buf` is full. `what` names the input where a read fails, which `errors` is told.
+pub fn read_input<R: Read, E: Write>(
+    from: &mut R,
+    buf: &mut [u8],
+    what: &[u8],
+    errors: &mut E,
+) -> Input
+    ensures within { result.len ≤ length buf.new }
+    ensures bytes { Consumes (R.remaining from.old) (R.remaining from.new) (take result.len buf.new) }
+    ensures whole { IsFalse result.failed → result.len < length buf.new → IsAtEnd (R.remaining from.new) }
 {
     let mut n = 0;
     while n < buf.len() {
-        let got = read_from(fd, buf, n);
-        if got.failed {
-            os::fail(what);
-            return Input {
-                len: n,
-                failed: true,
-            };
+        match from.read(&mut buf[n..]) {
+            Ok(0) => {
+                return Input {
+                    len: n,
+                    failed: false,
+                };
+            }
+            Ok(got) => n += got,
+            Err(error) => {
+                say(errors, what, &error);
+                return Input {
+                    len: n,
+                    failed: true,
+                };
+            }
         }
-        if got.len == 0 {
-            return Input {
-                len: n,
-                failed: false,
-            };
-        }
-        n += got.len;
     }
     Input {
         len: n,
@@ -40,27 +52,50 @@ pub fn read_input(fd: i32, buf: &mut [u8], what: &[u8]) -> Input
     }
 }
 
-// One read into `buf` from the place `at` on; no byte at the end of the input.
-fn read_from(fd: i32, buf: &mut [u8], at: usize) -> Input
-    requires { at ≤ length buf.old }
-    ensures { (at + result.len ≤ length buf.new) × (length buf.new ≡ length buf.old) }
+// Writes all of `bytes` and answers whether it could. `what` names the output where it could not, which `errors` is told; of a pipe that nobody reads any
+// more nothing is said.
+pub fn write_output<W: Write, E: Write>(
+    to: &mut W,
+    bytes: &[u8],
+    what: &[u8],
+    errors: &mut E,
+) -> bool
+    ensures { IsTrue result → Appends (W.contents to.old) (W.contents to.new) bytes.now }
 {
-    let part = &mut buf[at..];
-    let got = libc::read(fd, part);
-    let len = io::count(got, part);
-    Input {
-        len,
-        failed: got < 0,
+    match to.write_all(bytes) {
+        Ok(()) => true,
+        Err(error) => {
+            if error.kind() != ErrorKind::BrokenPipe {
+                say(errors, what, &error);
+            }
+            false
+        }
     }
 }
 
-// Writes all of `bytes` and answers whether it could. `what` names the output where it could not; of a pipe that nobody reads any more nothing is said.
-pub fn write_output(fd: i32, bytes: &[u8], what: &[u8]) -> bool {
-    if io::write_all(fd, bytes) {
-        return true;
+// Writes a line: what failed, as the caller names it, a colon and the system's words for why. Nobody is left to be told where that fails.
+pub fn say<E: Write>(errors: &mut E, what: &[u8], error: &io::Error) {
+    let mut text = Cursor::new([0u8; 256]);
+    let _ = write!(text, "{error}");
+    let bytes = text.into_inner();
+    let words = match str::from_utf8(&bytes) {
+        Ok(text) => system_words(text),
+        Err(_) => "",
+    };
+    let _ = errors.write_all(what);
+    let _ = errors.write_all(b": ");
+    let _ = errors.write_all(words.as_bytes());
+    let _ = errors.write_all(b"\n");
+}
+
+// An error's text, which zeros end, without its number: `No such file or directory` of `No such file or directory (os error 2)`.
+fn system_words(text: &str) -> &str {
+    let text = match text.split_once('\0') {
+        Some((text, _)) => text,
+        None => text,
+    };
+    match text.rsplit_once(" (os error ") {
+        Some((words, _)) => words,
+        None => text,
     }
-    if os::errno() != libc::EPIPE {
-        os::fail(what);
-    }
-    false
 }
