@@ -1,5 +1,5 @@
 -- Each accepted step is applied, and leaves a state in order. Assumes nothing.
-use Prim.Native.Nat.{ℕ, zero, ◌≤◌}
+use Prim.Native.Nat.{ℕ, ◌≤◌}
 use mathlib.Core.Path.{◌≡◌, refl, ap, ◌∙◌, sym, fun_ext}
 use mathlib.Core.Bool.{Bool, true, false, ◌&&◌, ◌||◌, not, cond, true≢false, false≢true}
 use mathlib.Core.List.{List, [], ◌∷◌}

@@ -1,5 +1,5 @@
 -- What each accepted step does to each box; and the configurations before and after it are neighbours. Assumes nothing.
-use Prim.Native.Nat.{ℕ, zero, suc, ◌≤◌}
+use Prim.Native.Nat.{ℕ, suc, ◌≤◌}
 use mathlib.Core.Path.{◌≡◌, refl, ap, ◌∙◌, sym}
 use mathlib.Core.Bool.{Bool, true, false, ◌&&◌, ◌||◌, not, cond, true≢false}
 use mathlib.Core.List.{List, [], ◌∷◌}

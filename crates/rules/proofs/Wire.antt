@@ -8,7 +8,7 @@ use native.Mathlib.Omega.{arith}
 use borrow.Author.Tests.{lt-ltb, le-ltb, le-leb, ltb-true, ltb-false, leb-true}
 use lib.Dec.{eqb, leb, ltb}
 use lib.ListN.{length, take, drop, length-drop}
-use Rattle.rules.specs.Wire.{Front, cut, num, more, front, Found, bad, found, fits, judged, varint_in, Payload, varint, fixed, bytes, single, fixed_in, length_in, payload_in, Field, numbered, held, tagged, field_in, end, fault, next, row_of, row, groups, varint_of}
+use Rattle.rules.specs.Wire.{Front, cut, num, more, front, Found, bad, found, fits, judged, varint_in, Payload, fixed, bytes, single, fixed_in, length_in, payload_in, Field, numbered, held, tagged, field_in, end, fault, next, row_of, groups, varint_of}
 
 -- ** The front of bytes, by the first of them
 

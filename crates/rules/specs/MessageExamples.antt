@@ -1,5 +1,5 @@
 -- Messages worked by hand, each line ruling out a reader or a writer that does otherwise. Assumes nothing.
-use Rattle.std.specs.Prelude.{ℕ, ◌-◌, ◌^◌, true, false, not, ◌≡◌, List, [], ◌∷◌, ◌++◌, replicate}
+use Rattle.std.specs.Prelude.{ℕ, ◌-◌, ◌^◌, true, false, ◌≡◌, List, [], ◌∷◌, ◌++◌, replicate}
 use Rattle.std.proofs.Math.Path.{refl}
 use Rattle.rules.specs.State.{ConfState}
 use Rattle.rules.specs.Apply.{no_conf_state}
