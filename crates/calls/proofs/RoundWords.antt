@@ -83,4 +83,4 @@ module _ {s : List ℕ} {k w : ℕ} {ws : List ℕ} (f : Reads s k (w ∷ ws)) w
 pub words_back : {s : List ℕ} {k : ℕ} {ws : List ℕ} → Reads s k ws → words (length ws) s k ≡ ws
 unfolding words_by
 words_back {ws = []} f = refl
-words_back {ws = w ∷ ws} f = rw (reads_first f, words_back (reads-next f))
+words_back {s = s} {k = k} {ws = w ∷ ws} f = rw (reads_first f, words_back {s = s} {k = k + 1} {ws = ws} (reads-next f))

@@ -1,14 +1,12 @@
 -- A value that the code holds has its type (Typed.antt): its own relation (`c.good`, or `.ok` of a call) tells. Assumes nothing.
 use Prim.Native.Nat.{ℕ}
-use mathlib.Core.Path.{sym, ◌∙◌}
-use mathlib.Core.List.{List, [], ◌∷◌, map}
+use mathlib.Core.List.{List, [], ◌∷◌}
 use mir.Val.{Val}
-use lib.ListN.{length-map}
 use denote.Shadow.{shadow}
 use denote.Laws.{Is}
 use denote.Array as A
-use denote.Struct.Field.{Field, u64-field}
-use denote.Struct.Declared.{field}
+use denote.RattleType.{RattleType}
+use denote.Builtin.{u64}
 use denote.Struct.Laws as LL
 use Rattle.progress.specs.declared.Progress.{Progress}
 use Rattle.progress.specs.contracts.Progress as P
@@ -41,26 +39,26 @@ use Rattle.calls.proofs.Typed.{Each, none, more, ArrayOf, TypedSet, TypedList, T
 
 -- ** Arrays
 
-module _ (F : Field) {Q : F.Value → Type 0} (h : (x : F.Value) (v : Val) → Is F.row (F.into x) (v ∷ []) → Q x) where
-  each_typed : (xs : List F.Value) (us : List Val) → shadow (A.each F.row.Denot F.row.own_val (map F.into xs) us) → Each Q xs
+module _ (R : RattleType) {Q : R.Denot → Type 0} (h : (x : R.Denot) (v : Val) → Is R x (v ∷ []) → Q x) where
+  each_typed : (xs : List R.Denot) (us : List Val) → shadow (A.each R.Denot R.own_val xs us) → Each Q xs
   each_typed [] us s = none
   each_typed (x ∷ xs) [] s = absurd s
   each_typed (x ∷ xs) (u ∷ us) s = more (h x u s.0) (each_typed xs us s.1)
 
-  array_typed : {n : ℕ} {vs : List Val} (xs : List F.Value) → Is (A.Array F.row n) (map F.into xs) vs → ArrayOf n Q xs
-  array_typed xs p = record { places = sym (length-map xs F.into) ∙ p.1.0.1; each = each_typed xs p.0 p.1.1 }
+  array_typed : {n : ℕ} {vs : List Val} (xs : List R.Denot) → Is (A.Array R n) xs vs → ArrayOf n Q xs
+  array_typed xs p = record { places = p.1.0.1; each = each_typed xs p.0 p.1.1 }
 
 -- ** Structs
 
 pub set_typed : {vs : List Val} (s : IdSet) → Is I.the_row s vs → TypedSet s
 set_typed {vs} s p =
     let o = LL.owed I.the_type I'.the_laws s vs p in
-    record { ids = array_typed u64-field (λ x v q. q.1) s.ids o.0; len = o.1.0.1 }
+    record { ids = array_typed u64 (λ x v q. q.1) s.ids o.0; len = o.1.0.1 }
 
 pub list_typed : {vs : List Val} (l : IdList) → Is L.the_row l vs → TypedList l
 list_typed {vs} l p =
     let o = LL.owed L.the_type L'.the_laws l vs p in
-    record { ids = array_typed u64-field (λ x v q. q.1) l.ids o.0; len = o.1.0.1 }
+    record { ids = array_typed u64 (λ x v q. q.1) l.ids o.0; len = o.1.0.1 }
 
 pub conf_typed : {vs : List Val} (c : Configuration) → Is K.the_row c vs → TypedConf c
 conf_typed {vs} c p =
@@ -91,7 +89,7 @@ state_typed {vs} t p =
     record {
       conf = conf_typed t.conf o.0;
       ids = set_typed t.ids o.1.0;
-      records = array_typed (field P.the_type) (λ x v q. record_typed x q) t.records o.1.1.0;
+      records = array_typed P.the_row (λ x v q. record_typed x q) t.records o.1.1.0;
       max_inflight = o.1.1.1.0.1;
     }
 
@@ -101,7 +99,7 @@ entry_typed {vs} e p = record { id = (LL.owed M.the_type M'.the_laws e vs p).0.1
 pub log_typed : {vs : List Val} (l : ChangeLog) → Is G.the_row l vs → TypedLog l
 log_typed {vs} l p =
     let o = LL.owed G.the_type G'.the_laws l vs p in
-    record { entries = array_typed (field M.the_type) (λ x v q. entry_typed x q) l.entries o.0; count = o.1.0.1 }
+    record { entries = array_typed M.the_row (λ x v q. entry_typed x q) l.entries o.0; count = o.1.0.1 }
 
 pub conf_state_typed : {vs : List Val} (c : ConfState) → Is S.the_row c vs → TypedConfState c
 conf_state_typed {vs} c p =

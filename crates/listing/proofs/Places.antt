@@ -12,7 +12,7 @@ use Rattle.listing.proofs.Session.TheLaws as Z'
 
 module _ {vs : List Val} (z : Session) (p : Is Z.the_row z vs) where
   pub ids_sized : length z.ids ≡ 256
-  ids_sized = sym (length-map z.ids _) ∙ (LL.owed Z.the_type Z'.the_laws z vs p).1.0.1.0.1
+  ids_sized = (LL.owed Z.the_type Z'.the_laws z vs p).1.0.1.0.1
 
   pub kinds_sized : length z.kinds ≡ 256
-  kinds_sized = sym (length-map z.kinds _) ∙ (LL.owed Z.the_type Z'.the_laws z vs p).1.1.0.1.0.1
+  kinds_sized = (LL.owed Z.the_type Z'.the_laws z vs p).1.1.0.1.0.1

@@ -1,0 +1,9 @@
+-- `calls::read::number_at` meets its contract: the loop reads from the last byte to the first. Assumes nothing.
+use Rattle.calls.proofs.ReadNumbers.{Reading}
+use Rattle.calls.proofs.read.number_at.Given as goal
+
+abbrev pub invariant-loop-i : goal.invariant-loop-i
+invariant-loop-i l = Reading l.s l.at l.n l.i
+
+abbrev pub decreases-loop-i : goal.decreases-loop-i
+decreases-loop-i l = l.i

@@ -1,0 +1,21 @@
+-- `calls::read::state_holds` meets its contract: the first test that is refused answers. Assumes nothing.
+use Prim.Native.Nat.{◌+◌}
+use mathlib.Core.Path.{◌≡◌}
+use mathlib.Core.Bool.{true}
+use Rattle.calls.specs.Layout.{within}
+use Rattle.unplug.proofs.Within.{test_no, test_yes}
+use mathlib.Core.Path.{ap}
+use mathlib.Core.Bool.{not}
+use Rattle.calls.proofs.read.state_holds.Goals as goal
+
+pub returns-then-not-at_most : goal.returns-then-not-at_most
+returns-then-not-at_most c = rw (test_no c.at_most.ensures (ap not c.if-not-at_most.true))
+
+pub returns-then-not-at_most-2 : goal.returns-then-not-at_most-2
+returns-then-not-at_most-2 c = rw (test_yes c.at_most.ensures (ap not c.if-not-at_most.false), test_no c.at_most-2.ensures (ap not c.if-not-at_most-2.true))
+
+pub returns-then-not-at_most-3 : goal.returns-then-not-at_most-3
+returns-then-not-at_most-3 c = rw (test_yes c.at_most.ensures (ap not c.if-not-at_most.false), test_yes c.at_most-2.ensures (ap not c.if-not-at_most-2.false), test_no c.at_most-3.ensures (ap not c.if-not-at_most-3.true))
+
+pub returns : goal.returns
+returns c = rw (test_yes c.at_most.ensures (ap not c.if-not-at_most.false), test_yes c.at_most-2.ensures (ap not c.if-not-at_most-2.false), test_yes c.at_most-3.ensures (ap not c.if-not-at_most-3.false)) c.at_most-4.ensures

@@ -1,0 +1,8 @@
+-- `calls::write::put_conf_state` meets its contract. Assumes nothing.
+use native.Mathlib.Omega.{arith}
+use Rattle.text.proofs.Laws.{rest_all, rest_put, rest-last}
+use Rattle.calls.proofs.WriteWords.{conf-state-bytes}
+use Rattle.calls.proofs.write.put_conf_state.Goals as goal
+
+pub returns : goal.returns
+returns c = rw conf-state-bytes (rest-last (rest_put (rest_put (rest_put (rest_put (rest_all (omega (arith, c.well_formed, c.ranges)) (omega (arith, c.well_formed, c.ranges))) c.put_list-a.ensures) c.put_list-b.ensures) c.put_list-c.ensures) c.put_list-d.ensures) c.put_flag.ensures)

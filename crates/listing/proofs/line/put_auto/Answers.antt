@@ -1,0 +1,14 @@
+-- `listing::line::put_auto` meets its contract. Assumes nothing.
+use native.Mathlib.Omega.{arith}
+use borrow.Author.Rules.{rules}
+use Rattle.text.proofs.Laws.{put_none}
+use Rattle.listing.proofs.line.put_auto.Goals as goal
+
+-- TODO slice-aggregate-put-bytes : tie.Need-slice-aggregate-put-bytes
+-- slice-aggregate-put-bytes c = search rules
+
+pub returns-then-auto : goal.returns-then-auto
+returns-then-auto c = rw c.if-auto.true c.put_bytes.ensures
+
+pub returns : goal.returns
+returns c = rw c.if-auto.false (put_none (omega arith))
