@@ -78,7 +78,8 @@ pub fn put_flag(out: &mut [u8], at: usize, first: bool, second: bool) -> usize
     if first == second {
         return at;
     }
-    if second {
+    let turned_on = second;
+    if turned_on {
         return text::put_bytes(out, at, b"auto_leave false -> true\n");
     }
     text::put_bytes(out, at, b"auto_leave true -> false\n")
