@@ -2,7 +2,9 @@
 // alone for a fault, and says on standard error of which file it is, and why. What is printed is the text of crate comparison.
 #![tactic(auto)]
 
-ghost use Rattle.std.specs.Prelude.{◌≤◌, length};
+ghost use Rattle.std.specs.Prelude.{◌≤◌, length, IsTrue};
+ghost use Rattle.std.specs.Io.KnownBytes.{Appends};
+ghost use Rattle.comparison.specs.Compare.{comparison};
 
 use std::env::{Env, FillError};
 use std::fs::File;
@@ -101,7 +103,8 @@ fn named(rt: &impl Env, i: usize, then: &[u8], out: &mut [u8]) -> usize
     end
 }
 
-// Prints what two files give, and says which of them is refused. No text is longer than LONGEST (`comparison-size`, crates/comparison/proofs).
+// Prints what two files give, and says which of them is refused; whether it was printed. No text is longer than LONGEST (`comparison-size`,
+// crates/comparison/proofs).
 fn show<W: Write, E: Write>(
     rt: &impl Env,
     readable: bool,
@@ -109,13 +112,16 @@ fn show<W: Write, E: Write>(
     second: &[u8],
     out: &mut W,
     errors: &mut E,
-) {
+) -> bool
+    ensures { IsTrue result → Appends (W.contents out.old) (W.contents out.new) (comparison readable first.now second.now) }
+{
     let mut text = [0u8; comparison::LONGEST];
     let n = comparison::put_comparison(&mut text, 0, readable, first, second);
-    streams::write_output(out, &text[..n], b"compare: standard output", errors);
+    let printed = streams::write_output(out, &text[..n], b"compare: standard output", errors);
     if readable {
         explain(rt, first, second, errors);
     }
+    printed
 }
 
 // Of two files that could be read: says which are too long, or which one's message is refused.
