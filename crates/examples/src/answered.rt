@@ -4,119 +4,118 @@ use crate::say;
 use crate::state::{say_conf, say_whole};
 use changer::Answer;
 use progress::Progress;
+use std::io;
 use tracker::{ChangeLog, MapChange, MapChangeType, Outcome, Verdict, numbers};
 
 // What a call answers: the configuration and the log, or a refusal.
-pub(crate) fn say_answer(a: Answer) {
+pub(crate) fn say_answer(rt: &impl Print, a: Answer) -> io::Result<()> {
     if a.number != numbers::ACCEPTED {
-        say_refused(a.number, a.id);
-        return;
+        return say_refused(rt, a.number, a.id);
     }
-    say_conf(a.conf);
-    say_log(a.log);
+    say_conf(rt, a.conf)?;
+    say_log(rt, a.log)
 }
 
-fn say_refused(number: u64, id: u64) {
-    say::words(b"refused ");
-    say::number(number);
-    say::words(b" id ");
-    say::number(id);
+fn say_refused(rt: &impl Print, number: u64, id: u64) -> io::Result<()> {
+    say::words(rt, b"refused ")?;
+    say::number(rt, number)?;
+    say::words(rt, b" id ")?;
+    say::number(rt, id)
 }
 
 // The log's entries, `log +4 -3`; the empty one by name.
-fn say_log(log: ChangeLog) {
+fn say_log(rt: &impl Print, log: ChangeLog) -> io::Result<()> {
     if log.count == 0 {
-        say::words(b", empty log");
-        return;
+        return say::words(rt, b", empty log");
     }
-    say::words(b", log");
-    say_entries(log);
+    say::words(rt, b", log")?;
+    say_entries(rt, log)
 }
 
-fn say_entries(log: ChangeLog) {
+fn say_entries(rt: &impl Print, log: ChangeLog) -> io::Result<()> {
     let n = log.count;
     let mut i = 0;
     while i < ChangeLog::CAPACITY {
         if n <= i {
-            return;
+            return Ok(());
         }
         let e = log.entries[i];
-        say_entry(e);
+        say_entry(rt, e)?;
         i += 1;
     }
+    Ok(())
 }
 
 // ` +5`, or ` -5`.
-fn say_entry(e: MapChange) {
+fn say_entry(rt: &impl Print, e: MapChange) -> io::Result<()> {
     let kind = e.kind;
     match kind {
-        MapChangeType::Add => say::words(b" +"),
-        MapChangeType::Remove => say::words(b" -"),
+        MapChangeType::Add => say::words(rt, b" +")?,
+        MapChangeType::Remove => say::words(rt, b" -")?,
     }
-    say::number(e.id);
+    say::number(rt, e.id)
 }
 
 // The changes of a list: `enter remove 1, add 2, learner 3`.
-pub(crate) fn say_changes(list: Changes) {
-    say::words(b"enter");
+pub(crate) fn say_changes(rt: &impl Print, list: &Changes) -> io::Result<()> {
+    say::words(rt, b"enter")?;
     let n = list.len;
     let mut i = 0;
     while i < changes::MAX_CHANGES {
         if n <= i {
-            return;
+            return Ok(());
         }
         if i != 0 {
-            say::words(b",");
+            say::words(rt, b",")?;
         }
-        say_change(list.ids[i], list.kinds[i]);
+        say_change(rt, list.ids[i], list.kinds[i])?;
         i += 1;
     }
+    Ok(())
 }
 
-fn say_change(id: u64, kind: u8) {
+fn say_change(rt: &impl Print, id: u64, kind: u8) -> io::Result<()> {
     if kind == ADD {
-        say::words(b" add ");
+        say::words(rt, b" add ")?;
     } else if kind == REMOVE {
-        say::words(b" remove ");
+        say::words(rt, b" remove ")?;
     } else {
-        say::words(b" learner ");
+        say::words(rt, b" learner ")?;
     }
-    say::number(id);
+    say::number(rt, id)
 }
 
 // What `restore` and `restore_step_by_step` answer: the state that it leaves, after the refusal if there is one.
-pub(crate) fn say_outcome(o: Outcome) {
+pub(crate) fn say_outcome(rt: &impl Print, o: Outcome) -> io::Result<()> {
     if o.number != numbers::ACCEPTED {
-        say_refused(o.number, o.id);
-        say::words(b", left with ");
+        say_refused(rt, o.number, o.id)?;
+        say::words(rt, b", left with ")?;
     }
-    say_whole(o.tracker);
+    say_whole(rt, o.tracker)
 }
 
 // What the check answers.
-pub(crate) fn say_check(v: Verdict) {
+pub(crate) fn say_check(rt: &impl Print, v: Verdict) -> io::Result<()> {
     if v.number == numbers::ACCEPTED {
-        say::words(b"the check passes");
-        return;
+        return say::words(rt, b"the check passes");
     }
-    say_refused(v.number, v.id);
+    say_refused(rt, v.number, v.id)
 }
 
 // A yes or no.
-pub(crate) fn say_yes(yes: bool) {
+pub(crate) fn say_yes(rt: &impl Print, yes: bool) -> io::Result<()> {
     if yes {
-        say::words(b"yes");
-        return;
+        return say::words(rt, b"yes");
     }
-    say::words(b"no");
+    say::words(rt, b"no")
 }
 
 // What tells a record in use from a fresh one.
-pub(crate) fn say_record(asked: &[u8], r: Progress) {
-    say::words(asked);
-    say::words(b"matched ");
-    say::number(r.matched);
-    say::words(b", next_idx ");
-    say::number(r.next_idx);
-    say::words(b"\n");
+pub(crate) fn say_record(rt: &impl Print, asked: &[u8], r: Progress) -> io::Result<()> {
+    say::words(rt, asked)?;
+    say::words(rt, b"matched ")?;
+    say::number(rt, r.matched)?;
+    say::words(rt, b", next_idx ")?;
+    say::number(rt, r.next_idx)?;
+    say::words(rt, b"\n")
 }

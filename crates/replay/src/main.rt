@@ -2,13 +2,15 @@
 // those of crate listing.
 #![tactic(auto)]
 
+use std::io::Write;
+
 // A block of lines. It is written out where it may have no room for a line more: no line is longer than 11,520 bytes (`line-size`, crates/listing/proofs).
 const BLOCK: usize = 32768;
 
 const FULL: usize = BLOCK - 11520;
 
 // The lines of the records one after the other, as far as they can be written.
-fn list(rt: HostRuntime, script: &[u8]) {
+fn list<W: Write, E: Write>(script: &[u8], out: &mut W, errors: &mut E) {
     let mut block = [0u8; BLOCK];
     let mut n = 0;
     let mut z = listing::begin();
@@ -18,14 +20,14 @@ fn list(rt: HostRuntime, script: &[u8]) {
         let kind = script[at];
         if listing::stops(z, kind) {
             let end = listing::put_stopped(&mut block, n, at);
-            show(rt, &block, end);
+            show(&block, end, out, errors);
             return;
         }
         let t = listing::turn(&mut block, n, z, kind, listing::number_at(script, at + 1));
         n = t.at;
         z = t.session;
         if FULL < n {
-            if !show(rt, &block, n) {
+            if !show(&block, n, out, errors) {
                 return;
             }
             n = 0;
@@ -34,42 +36,39 @@ fn list(rt: HostRuntime, script: &[u8]) {
         left -= 1;
     }
     let end = listing::put_ending(&mut block, n, at, script.len(), z);
-    show(rt, &block, end);
+    show(&block, end, out, errors);
 }
 
 // The first `n` bytes of a block; whether they were written.
-fn show(rt: HostRuntime, block: &[u8], n: usize) -> bool {
+fn show<W: Write, E: Write>(block: &[u8], n: usize, out: &mut W, errors: &mut E) -> bool {
     if block.len() < n {
         return false;
     }
-    write(rt, &block[..n])
+    write(&block[..n], out, errors)
 }
 
 // Bytes of the listing; whether they were written. What fails is said.
-fn write(rt: HostRuntime, bytes: &[u8]) -> bool {
-    streams::write_output(
-        &mut rt.stdout(),
-        bytes,
-        b"replay: standard output",
-        &mut rt.stderr(),
-    )
+fn write<W: Write, E: Write>(bytes: &[u8], out: &mut W, errors: &mut E) -> bool {
+    streams::write_output(out, bytes, b"replay: standard output", errors)
 }
 
 fn main(rt: HostRuntime) {
+    let mut out = rt.stdout();
+    let mut errors = rt.stderr();
     let mut script = [0u8; listing::MAX_SCRIPT + 1];
     let input = streams::read_input(
         &mut rt.stdin(),
         &mut script,
         b"replay: standard input",
-        &mut rt.stderr(),
+        &mut errors,
     );
     if input.failed {
         return;
     }
     let n = input.len;
     if listing::MAX_SCRIPT < n {
-        write(rt, b"too long\n");
+        write(b"too long\n", &mut out, &mut errors);
         return;
     }
-    list(rt, &script[..n]);
+    list(&script[..n], &mut out, &mut errors);
 }

@@ -2,10 +2,10 @@
 ghost use Rattle.std.specs.Prelude.{◌≡◌, length};
 
 use crate::unpack::{sum, unpack};
-use libc::STDIN_FILENO;
+use std::io::{Read, Write};
 
 // The six words before a case's bytes.
-#[derive(Drop)]
+#[derive(Clone, Copy)]
 pub(crate) struct Head {
     // whether they are all there
     pub whole: bool,
@@ -23,7 +23,7 @@ pub(crate) struct Head {
 }
 
 // What a replay shows.
-#[derive(Drop)]
+#[derive(Clone, Copy)]
 pub(crate) enum Outcome {
     Same,
     // The file ends in the case.
@@ -55,10 +55,15 @@ pub(crate) fn is_lost(o: Outcome) -> bool {
     }
 }
 
+// As many bytes as there are, up to the length of `buf`, at the front of it. A read that fails is said, and ends the file.
+pub(crate) fn read<R: Read, E: Write>(from: &mut R, buf: &mut [u8], errors: &mut E) -> usize {
+    streams::read_input(from, buf, b"vectors: standard input", errors).len
+}
+
 // Bytes that are not there count as 0.
-pub(crate) fn read_head() -> Head {
+pub(crate) fn read_head<R: Read, E: Write>(from: &mut R, errors: &mut E) -> Head {
     let mut s = [0u8; 48];
-    let n = io::read_full(STDIN_FILENO, &mut s);
+    let n = read(from, &mut s, errors);
     Head {
         whole: n == 48,
         size: calls::read::word(&s, 0),
@@ -71,7 +76,7 @@ pub(crate) fn read_head() -> Head {
 }
 
 // The case of this head, the rest of it read and replayed.
-pub(crate) fn fetch(h: Head) -> Outcome {
+pub(crate) fn fetch<R: Read, E: Write>(from: &mut R, errors: &mut E, h: Head) -> Outcome {
     let n = h.size as usize;
     if !h.whole {
         return Outcome::Cut;
@@ -80,12 +85,12 @@ pub(crate) fn fetch(h: Head) -> Outcome {
         return Outcome::Long;
     }
     let mut packed = [0u8; 65536];
-    fill(h, &mut packed[..n])
+    fill(from, errors, h, &mut packed[..n])
 }
 
 // The pieces, read into a buffer of their length.
-fn fill(h: Head, packed: &mut [u8]) -> Outcome {
-    if io::read_full(STDIN_FILENO, packed) < packed.len() {
+fn fill<R: Read, E: Write>(from: &mut R, errors: &mut E, h: Head, packed: &mut [u8]) -> Outcome {
+    if read(from, packed, errors) < packed.len() {
         return Outcome::Cut;
     }
     expand(h, packed)

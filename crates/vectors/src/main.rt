@@ -4,7 +4,8 @@
 #![tactic(auto)]
 
 use case::{Head, Outcome};
-use libc::STDIN_FILENO;
+use std::io;
+use std::io::{Read, Write};
 use std::num::wrapping_add_u64;
 
 mod case; // one case
@@ -15,7 +16,7 @@ mod unpack; // the bytes of a case
 const NAME: u64 = 3630857283772967268;
 
 // How many cases were replayed, of each kind; and whether the rest cannot be read.
-#[derive(Drop)]
+#[derive(Clone, Copy)]
 pub(crate) struct Counts {
     pub calls: u64,
     pub scripts: u64,
@@ -54,19 +55,30 @@ fn one_if(b: bool) -> u64 {
 }
 
 // The next case is read, replayed and counted; a difference is printed.
-fn next(c: Counts) -> Counts {
-    let h = case::read_head();
-    let o = case::fetch(h);
+fn next<R: Read, E: Write>(
+    rt: &impl Print,
+    from: &mut R,
+    errors: &mut E,
+    c: Counts,
+) -> io::Result<Counts> {
+    let h = case::read_head(from, errors);
+    let o = case::fetch(from, errors, h);
     say::difference(
+        rt,
         wrapping_add_u64(wrapping_add_u64(c.passed, c.failed), 1),
         h,
         o,
-    );
-    counted(c, h, o)
+    )?;
+    Ok(counted(c, h, o))
 }
 
 // So many cases one after the other, as far as they can be read.
-fn replay(cases: u64) -> Counts {
+fn replay<R: Read, E: Write>(
+    rt: &impl Print,
+    from: &mut R,
+    errors: &mut E,
+    cases: u64,
+) -> io::Result<Counts> {
     let mut c = Counts {
         calls: 0,
         scripts: 0,
@@ -77,34 +89,41 @@ fn replay(cases: u64) -> Counts {
     };
     let mut left = cases;
     while 0 < left {
-        c = next(c);
+        c = next(rt, from, errors, c)?;
         if c.lost {
-            return c;
+            return Ok(c);
         }
         left -= 1;
     }
-    c
+    Ok(c)
 }
 
 // Nothing may follow the last case.
-fn ended(c: Counts) -> Counts {
+fn ended<R: Read, E: Write>(
+    rt: &impl Print,
+    from: &mut R,
+    errors: &mut E,
+    c: Counts,
+) -> io::Result<Counts> {
     let mut one = [0u8; 1];
     if c.lost {
-        return c;
+        return Ok(c);
     }
-    if io::read_full(STDIN_FILENO, &mut one) == 0 {
-        return c;
+    if case::read(from, &mut one, errors) == 0 {
+        return Ok(c);
     }
-    say::text(b"bytes after the last case\n");
-    lost(c)
+    say::text(rt, b"bytes after the last case\n")?;
+    Ok(lost(c))
 }
 
-fn main() {
+fn main(rt: HostRuntime) -> io::Result<()> {
+    let mut from = rt.stdin();
+    let mut errors = rt.stderr();
     let mut head = [0u8; 16];
-    let n = io::read_full(STDIN_FILENO, &mut head);
+    let n = case::read(&mut from, &mut head, &mut errors);
     if n < 16 || calls::read::word(&head, 0) != NAME {
-        say::text(b"no vectors\n0 passed, 1 failed\n");
-        return;
+        return say::text(&rt, b"no vectors\n0 passed, 1 failed\n");
     }
-    say::counts(ended(replay(calls::read::word(&head, 1))));
+    let c = replay(&rt, &mut from, &mut errors, calls::read::word(&head, 1))?;
+    say::counts(&rt, ended(&rt, &mut from, &mut errors, c)?)
 }

@@ -1,62 +1,62 @@
 // What is printed.
 use crate::Counts;
 use crate::case::{Head, Outcome};
-use libc::STDOUT_FILENO;
+use std::io;
 
-pub(crate) fn text(s: &[u8]) {
-    io::write_all(STDOUT_FILENO, s);
+pub(crate) fn text(rt: &impl Print, s: &[u8]) -> io::Result<()> {
+    rt.write_all(s)
 }
 
-fn number(n: u64) {
-    io::print_decimal(STDOUT_FILENO, n);
+fn number(rt: &impl Print, n: u64) -> io::Result<()> {
+    print!(rt; "{n}")
 }
 
 // A case that differs, and in what.
-pub(crate) fn difference(n: u64, h: Head, o: Outcome) {
+pub(crate) fn difference(rt: &impl Print, n: u64, h: Head, o: Outcome) -> io::Result<()> {
     match o {
-        Outcome::Same => {}
-        Outcome::Cut => line(n, b"cut short\n"),
-        Outcome::Long => line(n, b"too long\n"),
-        Outcome::Damaged => line(n, b"damaged\n"),
+        Outcome::Same => Ok(()),
+        Outcome::Cut => line(rt, n, b"cut short\n"),
+        Outcome::Long => line(rt, n, b"too long\n"),
+        Outcome::Damaged => line(rt, n, b"damaged\n"),
         Outcome::Returned(value) => {
-            line(n, b"returned ");
-            instead(value, h.value);
+            line(rt, n, b"returned ")?;
+            instead(rt, value, h.value)
         }
         Outcome::Byte(at, is, wanted) => {
-            line(n, b"lent byte ");
-            number(at as u64);
-            text(b" is ");
-            instead(is as u64, wanted as u64);
+            line(rt, n, b"lent byte ")?;
+            number(rt, at as u64)?;
+            text(rt, b" is ")?;
+            instead(rt, is as u64, wanted as u64)
         }
     }
 }
 
 // `case 17: `, and what is said of it.
-fn line(n: u64, s: &[u8]) {
-    text(b"case ");
-    number(n);
-    text(b": ");
-    text(s);
+fn line(rt: &impl Print, n: u64, s: &[u8]) -> io::Result<()> {
+    text(rt, b"case ")?;
+    number(rt, n)?;
+    text(rt, b": ")?;
+    text(rt, s)
 }
 
 // `3, not 4`.
-fn instead(is: u64, wanted: u64) {
-    number(is);
-    text(b", not ");
-    number(wanted);
-    text(b"\n");
+fn instead(rt: &impl Print, is: u64, wanted: u64) -> io::Result<()> {
+    number(rt, is)?;
+    text(rt, b", not ")?;
+    number(rt, wanted)?;
+    text(rt, b"\n")
 }
 
 // The last two lines.
-pub(crate) fn counts(c: Counts) {
-    number(c.calls);
-    text(b" calls, ");
-    number(c.scripts);
-    text(b" scripts; ");
-    number(c.by_rust);
-    text(b" answered by the Rust\n");
-    number(c.passed);
-    text(b" passed, ");
-    number(c.failed);
-    text(b" failed\n");
+pub(crate) fn counts(rt: &impl Print, c: Counts) -> io::Result<()> {
+    number(rt, c.calls)?;
+    text(rt, b" calls, ")?;
+    number(rt, c.scripts)?;
+    text(rt, b" scripts; ")?;
+    number(rt, c.by_rust)?;
+    text(rt, b" answered by the Rust\n")?;
+    number(rt, c.passed)?;
+    text(rt, b" passed, ")?;
+    number(rt, c.failed)?;
+    text(rt, b" failed\n")
 }
