@@ -36,9 +36,9 @@ module _ (readable : Bool) (l m : List ℕ) {x y : List ℕ} where
     unfolding refusal
     first-long k = not-read (rw (h, lt-ltb 32768 (length l) k))
 
-    pub second_long : length l ≤ 32768 → 32768 < length m → BothRead readable l m 32 x y
+    pub second-long : length l ≤ 32768 → 32768 < length m → BothRead readable l m 32 x y
     unfolding refusal
-    second_long j k = not-read (rw (h, le-ltb 32768 (length l) j, lt-ltb 32768 (length m) k))
+    second-long j k = not-read (rw (h, le-ltb 32768 (length l) j, lt-ltb 32768 (length m) k))
 
 -- the files' own refusals, or none
 module _ (readable : Bool) (l m : List ℕ) (h : readable ≡ true) (j : length l ≤ 32768) (k : length m ≤ 32768) {n : ℕ} {x : List ℕ} (f : SetsRead l n x) where

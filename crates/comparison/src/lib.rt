@@ -78,7 +78,6 @@ fn have_room(a: &[u64], b: &[u64], room: usize) -> bool
 }
 
 // Reads both messages, each list as a set: 0, or the refusal. 32 for either file comes before any fault in one of them.
-#[tactic(auto, using(crate::proofs::Messages::second_long))]
 fn read_both(readable: bool, first: &[u8], second: &[u8], a: &mut [u64], b: &mut [u64]) -> u64
     requires { (length a.old ≡ 261) × (length b.old ≡ 261) }
     ensures { BothRead readable first.now second.now result a.new b.new }
@@ -86,10 +85,12 @@ fn read_both(readable: bool, first: &[u8], second: &[u8], a: &mut [u64], b: &mut
     if !readable {
         return UNFIT;
     }
-    if MAX_FILE < first.len() {
+    let first_long = MAX_FILE < first.len();
+    if first_long {
         return UNFIT;
     }
-    if MAX_FILE < second.len() {
+    let second_long = MAX_FILE < second.len();
+    if second_long {
         return UNFIT;
     }
     let number = read_sets(first, a);

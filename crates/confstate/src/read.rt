@@ -10,7 +10,7 @@ ghost use Rattle.confstate.specs.Steps.{Holding, Listing, Grows, Reads, Takes, h
 use crate::WORDS;
 
 // What came of a field: 0, or its refusal; and the place after it.
-#[derive(Drop)]
+#[derive(Clone, Copy)]
 struct Taken {
     fault: u64,
     next: usize,

@@ -8,7 +8,7 @@ ghost use Rattle.text.specs.Put.{Put};
 ghost use Rattle.wire.specs.Varints.{varint_at, tenth_at, end_of};
 
 // What stands at a place: 0 and a number; or 28, cut short; or 29, over ten bytes or 64 bits. `next` is the place after it, of a cut one its own.
-#[derive(Drop)]
+#[derive(Clone, Copy)]
 pub struct Varint {
     pub fault: u64,
     pub value: u64,
