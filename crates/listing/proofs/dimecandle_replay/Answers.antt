@@ -7,14 +7,14 @@ pub returns-then-script-gt-MAX_SCRIPT : goal.returns-then-script-gt-MAX_SCRIPT
 returns-then-script-gt-MAX_SCRIPT c = (answer-long _ _ c.if-script-gt-MAX_SCRIPT.true, leaves-long _ _ c.if-script-gt-MAX_SCRIPT.true)
 
 pub returns-then-out-n : goal.returns-then-out-n
-returns-then-out-n c = let s = c.args in
-    let h = c.if-script-gt-MAX_SCRIPT.false in
+returns-then-out-n c = let h = c.if-script-gt-MAX_SCRIPT.false in
+    let s = c.args in
     let f = c.put_listing-n.ensures in
     (answer_none s.script.now s.out.now h f c.if-out-n.true, leaves_none s.script.now s.out.now h f c.if-out-n.true)
 
 pub returns : goal.returns
-returns c = let s = c.args in
-    let h = c.if-script-gt-MAX_SCRIPT.false in
+returns c = let h = c.if-script-gt-MAX_SCRIPT.false in
+    let s = c.args in
     let f = c.put_listing-n.ensures in
     let g = c.put_listing-m.ensures in
     let k = c.if-out-n.false in
