@@ -1,5 +1,5 @@
 -- One call on any state, in bytes: docs/EMBEDDING.md. Assumes nothing.
-use Rattle.std.specs.Prelude.{ℕ, ◌+◌, Bool, false, not, cond, List, [], ◌∷◌, ◌++◌, eqb, ltb, length, take, drop}
+use Rattle.std.specs.Prelude.{ℕ, Bool, false, not, cond, List, [], ◌∷◌, ◌++◌, eqb, ltb, length, take, drop}
 use Rattle.rules.specs.Apply.{no_conf_state}
 use Rattle.tracker.specs.Bridge.{change_log_of, conf_state_of}
 use Rattle.tracker.specs.Apply.{apply_of}

@@ -1,5 +1,5 @@
 -- The layout of a reply: docs/EMBEDDING.md. What the structs hold, as bytes. Assumes nothing.
-use Rattle.std.specs.Prelude.{ℕ, zero, suc, ◌+◌, ◌/◌, ◌%◌, Bool, cond, List, [], ◌∷◌, ◌++◌}
+use Rattle.std.specs.Prelude.{ℕ, zero, suc, ◌/◌, ◌%◌, Bool, cond, List, [], ◌∷◌, ◌++◌}
 use Rattle.progress.specs.declared.Progress.{Progress}
 use Rattle.progress.specs.declared.ProgressState.{ProgressState}
 use Rattle.progress.specs.declared.ProgressState.TheVariants.{Probe, Replicate, Snapshot}

@@ -5,7 +5,7 @@ use mathlib.Core.Bool.{Bool, true}
 use mathlib.Core.List.{List, [], ◌∷◌, append-nil}
 use Rattle.progress.specs.Record.{fresh_record}
 use Rattle.rules.specs.Ids.{memb}
-use Rattle.rules.specs.State.{State, ids, members}
+use Rattle.rules.specs.State.{State, members}
 use Rattle.rules.specs.Check.{in_order, is_tracked}
 use Rattle.rules.specs.Demands as lists
 use Rattle.rules.specs.Restore.{Step}

@@ -210,7 +210,7 @@ module _ (t : Tracker) where
 
       go : (b : Bool) → tracker_well_formed t ≡ b
           → unplug_of t x ≡ verdict_of (refuse (not b) 1 0 ▸ (refuse (joint s.conf) 6 0 ▸ (check (is_tracked s) s.conf ▸ (refuse (not (voter_left x s.conf.incoming)) 17 0 ▸ ok))))
-      go true w = (unplugged t x).well_formed_lem w ∙ rw (tracker_formed t w) (ap verdict_of (more (refuse (joint s.conf) 6 0) (check (is_tracked s) s.conf) (refuse (not (voter_left x s.conf.incoming)) 17 0)))
+      go true w = (unplugged t x).well_formed w ∙ rw (tracker_formed t w) (ap verdict_of (more (refuse (joint s.conf) 6 0) (check (is_tracked s) s.conf) (refuse (not (voter_left x s.conf.incoming)) 17 0)))
       go false w = (unplugged t x).malformed w
 
   pub first-told : FirstTold t

@@ -8,7 +8,6 @@ use borrow.Author.Tests.{lt-ltb, ltb-true}
 use lib.Dec.{ltb}
 use Rattle.rules.specs.State.{State, formed}
 use Rattle.rules.specs.Answers.{Answer, Verdict, accepted, fault, ok, refused}
-use Rattle.rules.specs.Changes.{done}
 use Rattle.rules.specs.Restore.{Step, apply_answer, ask, attempt, go_on, run}
 use Rattle.rules.proofs.Applied.{any_applied}
 use Rattle.rules.proofs.Demand3.{all_short}

@@ -75,7 +75,7 @@ equation z y h k = h ∙ sym k
 pub record Progresses : Type 0 where
   pub fresh : Settles progress-fresh.Learnt
   pub unused : Settles progress-unused.Learnt
-  pub is_unused_lem : Settles progress-is-unused.Learnt
+  pub is_unused : Settles progress-is-unused.Learnt
   pub is_default : Settles progress-is-default.Learnt
 
 pub progress : Progresses
@@ -86,7 +86,7 @@ progress = search equation
 pub record Sets : Type 0 where
   pub new : Settles idset-new.Learnt
   pub is-malformed : Settles idset-is-malformed.Learnt
-  pub is_empty_lem : Settles idset-is-empty.Learnt
+  pub is_empty : Settles idset-is-empty.Learnt
   pub contains : Settles idset-contains.Learnt
   pub insert : Settles idset-insert.Learnt
   pub remove : Settles idset-remove.Learnt
@@ -98,7 +98,7 @@ pub record Sets : Type 0 where
   pub stands_at : Settles idset-stands-at.Learnt
   pub next_of : Settles idset-next-of.Learnt
   pub is-past : Settles idset-is-past.Learnt
-  pub two_apart_lem : Settles idset-two-apart.Learnt
+  pub two_apart : Settles idset-two-apart.Learnt
   pub dimecandle_two_apart : Settles idset-dimecandle-two-apart.Learnt
 
 pub idset : Sets
@@ -140,7 +140,7 @@ pub record Invariants : Type 0 where
   pub check-voters : Settles invariants-check-voters.Learnt
   pub check-learners : Settles invariants-check-learners.Learnt
   pub check-staged : Settles invariants-check-staged.Learnt
-  pub first_where_lem : Settles invariants-first-where.Learnt
+  pub first_where : Settles invariants-first-where.Learnt
   pub check : Settles invariants-check.Learnt
   pub in_order : Settles invariants-in-order.Learnt
 
@@ -156,7 +156,7 @@ pub record Changes : Type 0 where
   pub view : Settles view_says
   pub contains : Settles contains_says
   pub is-tracked : Settles changes-is-tracked.Learnt
-  pub tracked_in_lem : Settles changes-tracked-in.Learnt
+  pub tracked_in : Settles changes-tracked-in.Learnt
   pub next-move : Settles changes-next-move.Learnt
   pub standing-of : Settles changes-standing-of.Learnt
   pub kind-of : Settles changes-kind-of.Learnt

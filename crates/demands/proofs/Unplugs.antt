@@ -32,7 +32,7 @@ unplugged t x =
       number = refl;
       id = refl;
       in_order = λ h. unplug_rules t x (and_left (tracker_well_formed t) (in_order (state_of t)) h) ∙ ap verdict_of (unplug-is-quick (state_of t) (and_right (tracker_well_formed t) (in_order (state_of t)) h) x);
-      well_formed_lem = λ w. unplug_rules t x w ∙ ap verdict_of (unplug-is-told (state_of t) x);
+      well_formed = λ w. unplug_rules t x w ∙ ap verdict_of (unplug-is-told (state_of t) x);
       malformed = unplug_ill t x;
     }
 

@@ -123,5 +123,5 @@ pub record Unplugged (t : Tracker) (x : ℕ) : Type 0 where
   -- of a state in order it is told by "joint or not, and whether another incoming voter exists"
   pub in_order : in_order_of t ≡ true → unplug_of t x ≡ verdict_of (quick (state_of t) x)
   -- of any well-formed one by these and the check, and of a malformed one it is 1
-  pub well_formed_lem : tracker_well_formed t ≡ true → unplug_of t x ≡ verdict_of (straight (state_of t) x)
+  pub well_formed : tracker_well_formed t ≡ true → unplug_of t x ≡ verdict_of (straight (state_of t) x)
   pub malformed : tracker_well_formed t ≡ false → unplug_of t x ≡ verdict_of (fault 1 0)

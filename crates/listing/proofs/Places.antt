@@ -1,9 +1,9 @@
 -- What a value of `Session` is known to be, of which its own relation (`c.good`, or `.ok` of a call) tells: its arrays have 256 places.
 -- Assumes nothing.
-use mathlib.Core.Path.{◌≡◌, sym, ◌∙◌}
+use mathlib.Core.Path.{◌≡◌}
 use mathlib.Core.List.{List}
 use mir.Val.{Val}
-use lib.ListN.{length, length-map}
+use lib.ListN.{length}
 use denote.Laws.{Is}
 use denote.Struct.Laws as LL
 use Rattle.listing.specs.declared.Session.{Session}

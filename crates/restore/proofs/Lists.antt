@@ -79,8 +79,8 @@ reads-readable {xs} {ks} r h = rw (eq-eqb (length xs) (length ks) r.same, le-ltb
 abbrev In : Changes → List Change → Type 0
 In c cs = Reads (ids_in c) (kinds_in c) cs
 
-one_more_lem : {c r : Changes} {l : IdList} {cs : List Change} (k : ℕ) → k ≤ 2 → In c cs → Appended c l k r → In r (cs ++ all (kind_of k) (entries_in l))
-one_more_lem {c} {r} {l} {cs} k h i a = rw (a.ids, a.kinds) (reads_append i (reads_all k h (entries_in l)))
+one_more : {c r : Changes} {l : IdList} {cs : List Change} (k : ℕ) → k ≤ 2 → In c cs → Appended c l k r → In r (cs ++ all (kind_of k) (entries_in l))
+one_more {c} {r} {l} {cs} k h i a = rw (a.ids, a.kinds) (reads_append i (reads_all k h (entries_in l)))
 
 pub few-more : {c r : Changes} {l : IdList} {k : ℕ} → Appended c l k r → l.len ≤ 64 → r.len ≤ c.len + 64
 few-more {c} {r} {l} a h = omega (arith, a.count, length-take l.len l.ids)
@@ -100,7 +100,7 @@ listed-all cs c₀ c₁ c₂ c₃ c₄ z a b d e h =
     i₀ = rw z reads_none
 
     i₄ : In c₄ (((all removeNode (entries_in cs.voters_outgoing) ++ all addNode (entries_in cs.voters)) ++ all addLearner (entries_in cs.learners)) ++ all addLearner (entries_in cs.learners_next))
-    i₄ = one_more_lem 2 (omega arith) (one_more_lem 2 (omega arith) (one_more_lem 0 (omega arith) (one_more_lem 1 (omega arith) i₀ a) b) d) e
+    i₄ = one_more 2 (omega arith) (one_more 2 (omega arith) (one_more 0 (omega arith) (one_more 1 (omega arith) i₀ a) b) d) e
 
 -- ** The turns of `append`
 

@@ -102,18 +102,18 @@ module _ {r : Progress} {ps₀ : List Peer} {n : ℕ} {es : List MapChange} {p :
   enrol_out h = none_left (omega (arith, length-take n es, s.long))
 
   module _ (h : i < n) (k : i < 256) (d : MapChange) (t : Peers) (e : t ≡ enter_in r (entry_of (get_or es i d)) (peers_in p)) where
-    one_more_lem : enrol_in r (entries_of (take n es)) ps₀ ≡ enrol_in r (entry_of (get_or es i d) ∷ entries_of (drop (i + 1) (take n es))) (peers_in p)
+    one_more : enrol_in r (entries_of (take n es)) ps₀ ≡ enrol_in r (entry_of (get_or es i d) ∷ entries_of (drop (i + 1) (take n es))) (peers_in p)
     unfolding entries_of
-    one_more_lem = s.same ∙ rw (left_cons n es i d h (omega (arith, s.long)))
+    one_more = s.same ∙ rw (left_cons n es i d h (omega (arith, s.long)))
 
     pub enrol-stop : t.full ≡ true → t ≡ enrol_in r (entries_of (take n es)) ps₀
-    enrol-stop f = e ∙ entered-full r (entries_of (drop (i + 1) (take n es))) (peers_in p) (entry_of (get_or es i d)) (ap (λ (u : Peers). u.full) (sym e) ∙ f) ∙ sym one_more_lem
+    enrol-stop f = e ∙ entered-full r (entries_of (drop (i + 1) (take n es))) (peers_in p) (entry_of (get_or es i d)) (ap (λ (u : Peers). u.full) (sym e) ∙ f) ∙ sym one_more
 
     entered : t.full ≡ false → Entered r (entry_of (get_or es i d)) (entries_of (drop (i + 1) (take n es))) (peers_in p) t
     entered f = rw e (entered-next r (entries_of (drop (i + 1) (take n es))) (peers_in p) (roster_rises s.rostered) (entry_of (get_or es i d)) (ap (λ (u : Peers). u.full) (sym e) ∙ f))
 
     pub enrol-next : t.full ≡ false → Enrolling r ps₀ n es t (i + 1)
-    enrol-next f = record { long = s.long; rostered = (entered f).rostered; vacant = f; unnamed = (entered f).unnamed; same = one_more_lem ∙ (entered f).same }
+    enrol-next f = record { long = s.long; rostered = (entered f).rostered; vacant = f; unnamed = (entered f).unnamed; same = one_more ∙ (entered f).same }
 
 -- ** The whole log
 

@@ -1,6 +1,6 @@
 -- Places after the last in use: unused records, and entries that are an Add of 0. Assumes nothing.
 use mathlib.Core.Path.{◌≡◌, refl}
-use mathlib.Core.Bool.{true, false, false≢true}
+use mathlib.Core.Bool.{true, false≢true}
 use borrow.Author.Tests.{eqb-true}
 use lib.Dec.{eqb}
 use Rattle.progress.specs.Record.{is_unused}

@@ -1,9 +1,9 @@
 -- What a value of each type is known to be, of which its own relation (`c.good`, or `.ok` of a call) tells: how many places its arrays
 -- have. Assumes nothing.
-use mathlib.Core.Path.{◌≡◌, sym, ◌∙◌}
+use mathlib.Core.Path.{◌≡◌}
 use mathlib.Core.List.{List}
 use mir.Val.{Val}
-use lib.ListN.{length, length-map}
+use lib.ListN.{length}
 use denote.Laws.{Is}
 use denote.Struct.Laws as LL
 use Rattle.idset.proofs.Sizes.{set_sized}

@@ -3,11 +3,11 @@ use Rattle.changes.proofs.place.Goals as goal
 
 pub returns : goal.returns
 returns c = rw (
-      c.any-changed.ensures,
-      c.put-staged.ensures,
-      c.is_staged.ensures,
-      c.put-others.ensures,
-      c.is_learner.ensures,
-      c.put-voters.ensures,
-      c.is_incoming.ensures,
-    )
+  c.any-changed.ensures,
+  c.put-staged.ensures,
+  c.is_staged.ensures,
+  c.put-others.ensures,
+  c.is_learner.ensures,
+  c.put-voters.ensures,
+  c.is_incoming.ensures,
+)

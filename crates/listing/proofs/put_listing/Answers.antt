@@ -1,7 +1,6 @@
 -- `listing::put_listing` meets its contract: what is left to be put is what the records left print. Assumes nothing.
 use native.Mathlib.Omega.{arith}
 use borrow.Author.Rules.{rules}
-use Rattle.text.proofs.Laws.{put-length}
 use Rattle.listing.proofs.Replay.{replay-start, replay-next, replay-stop, replay-end}
 use Rattle.listing.proofs.put_listing.Goals as goal
 

@@ -1,6 +1,5 @@
 -- `listing::put_stopped` meets its contract. Assumes nothing.
 use native.Mathlib.Omega.{arith}
-use borrow.Author.Rules.{rules}
 use Rattle.text.proofs.Laws.{put_then}
 use Rattle.listing.specs.Lines.{stopped_line}
 use Rattle.listing.proofs.put_stopped.Goals as goal

@@ -7,10 +7,8 @@ use Rattle.tracker.specs.Apply.{verdict_of}
 use Rattle.tracker.specs.Bridge.{conf_of}
 use Rattle.invariants.specs.Check.{voters_walk, learners_walk}
 use Rattle.invariants.proofs.Parts.{at-voters, at-learners, at_rest}
-use Rattle.unplug.specs.Words.{at}
 use Rattle.unplug.specs.Unplugs.{state_in}
 use Rattle.unplug.proofs.WordBlocks.{part_words}
-use borrow.Author.Rules.{rules}
 use Rattle.unplug.proofs.check.Goals as goal
 
 -- TODO part-incoming-start : tie.Need-slice-bounds-incoming-start

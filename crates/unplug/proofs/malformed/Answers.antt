@@ -9,7 +9,6 @@ use Rattle.tracker.specs.Form.{all_unused, conf_well_formed, tracker_well_formed
 use Rattle.unplug.specs.Words.{at, records_by, set_by}
 use Rattle.unplug.proofs.WordBlocks.{part_words, records_64, records-zeros}
 use Rattle.unplug.proofs.Unplugged.{records_active, records_paused, told_ill, told_well}
-use borrow.Author.Rules.{rules}
 use Rattle.unplug.proofs.malformed.Goals as goal
 
 -- TODO part-zero-from-start : tie.Need-slice-bounds-zero-from-start

@@ -3,7 +3,6 @@ use Prim.Native.Nat.{◌+◌, ◌-◌}
 use mathlib.Core.Path.{◌≡◌}
 use native.Mathlib.Omega.{arith}
 use Rattle.unplug.proofs.WordBlocks.{part_words}
-use borrow.Author.Rules.{rules}
 use Rattle.unplug.proofs.malformed_at.Goals as goal
 
 -- TODO part-malformed-in-start : tie.Need-slice-bounds-malformed-in-start

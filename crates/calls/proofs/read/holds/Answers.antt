@@ -1,7 +1,5 @@
 -- `calls::read::holds` meets its contract: the first test that is refused answers. Assumes nothing.
-use mathlib.Core.Path.{◌≡◌}
-use mathlib.Core.Bool.{true}
-use Rattle.calls.specs.Layout.{within, state_holds, list_holds, conf_holds, log_holds, holds}
+use Rattle.calls.specs.Layout.{holds}
 use Rattle.unplug.proofs.Within.{test_no, test_yes}
 use mathlib.Core.Path.{ap}
 use mathlib.Core.Bool.{not}

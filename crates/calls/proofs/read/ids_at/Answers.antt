@@ -2,7 +2,6 @@
 use Prim.Native.Nat.{◌+◌}
 use native.Mathlib.Omega.{arith}
 use borrow.Author.Rules.{rules}
-use Rattle.calls.specs.Layout.{word}
 use Rattle.calls.proofs.ReadFilled.{fill_start, fill_next, words-end}
 use Rattle.calls.proofs.read.ids_at.Goals as goal
 

@@ -1,8 +1,4 @@
 -- `calls::read::list_holds` meets its contract: the first test that is refused answers. Assumes nothing.
-use Prim.Native.Nat.{◌+◌}
-use mathlib.Core.Path.{◌≡◌}
-use mathlib.Core.Bool.{true}
-use Rattle.calls.specs.Layout.{within}
 use Rattle.unplug.proofs.Within.{test_no, test_yes}
 use mathlib.Core.Path.{ap}
 use mathlib.Core.Bool.{not}

@@ -2,7 +2,6 @@
 use Prim.Native.Nat.{◌+◌, ◌*◌}
 use native.Mathlib.Omega.{arith}
 use borrow.Author.Rules.{rules}
-use Rattle.calls.specs.Layout.{record_at}
 use Rattle.calls.proofs.ReadFilled.{fill_start, fill_next, records-end}
 use Rattle.calls.proofs.read.records_at.Goals as goal
 

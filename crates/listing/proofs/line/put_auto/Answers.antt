@@ -1,6 +1,5 @@
 -- `listing::line::put_auto` meets its contract. Assumes nothing.
 use native.Mathlib.Omega.{arith}
-use borrow.Author.Rules.{rules}
 use Rattle.text.proofs.Laws.{put_none}
 use Rattle.listing.proofs.line.put_auto.Goals as goal
 

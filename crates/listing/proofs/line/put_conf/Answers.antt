@@ -1,6 +1,5 @@
 -- `listing::line::put_conf` meets its contract: its pieces, one after the other. Assumes nothing.
 use native.Mathlib.Omega.{arith}
-use borrow.Author.Rules.{rules}
 use Rattle.text.proofs.Laws.{rest_all, rest_put, rest-last, put-length}
 use Rattle.listing.specs.Lines.{conf_text}
 use Rattle.listing.proofs.line.put_conf.Goals as goal

@@ -1,6 +1,5 @@
 -- `listing::line::put_ok` meets its contract: its pieces, one after the other. Assumes nothing.
 use native.Mathlib.Omega.{arith}
-use borrow.Author.Rules.{rules}
 use Rattle.text.proofs.Laws.{rest_all, rest_put, rest-last, put-length}
 use Rattle.listing.specs.Lines.{ok_line}
 use Rattle.listing.proofs.line.put_ok.Goals as goal
