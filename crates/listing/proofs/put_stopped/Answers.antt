@@ -4,9 +4,6 @@ use Rattle.text.proofs.Laws.{put_then}
 use Rattle.listing.specs.Lines.{stopped_line}
 use Rattle.listing.proofs.put_stopped.Goals as goal
 
--- TODO slice-aggregate-put-bytes : tie.Need-slice-aggregate-put-bytes
--- slice-aggregate-put-bytes c = search rules
-
 pub returns : goal.returns
 unfolding stopped_line
 returns c = put_then (omega arith) c.put_bytes-p.ensures (put_then (omega arith) c.put_decimal-q.ensures c.put_byte.ensures)

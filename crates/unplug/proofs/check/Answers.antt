@@ -11,36 +11,6 @@ use Rattle.unplug.specs.Unplugs.{state_in}
 use Rattle.unplug.proofs.WordBlocks.{part_words}
 use Rattle.unplug.proofs.check.Goals as goal
 
--- TODO part-incoming-start : tie.Need-slice-bounds-incoming-start
--- part-incoming-start c = search rules
-
--- TODO part-incoming-end : tie.Need-slice-bounds-incoming-end
--- part-incoming-end c = search rules
-
--- TODO part-outgoing-start : tie.Need-slice-bounds-outgoing-start
--- part-outgoing-start c = search rules
-
--- TODO part-outgoing-end : tie.Need-slice-bounds-outgoing-end
--- part-outgoing-end c = search rules
-
--- TODO part-ids-start : tie.Need-slice-bounds-ids-start
--- part-ids-start c = search rules
-
--- TODO part-ids-end : tie.Need-slice-bounds-ids-end
--- part-ids-end c = search rules
-
--- TODO part-learners-start : tie.Need-slice-bounds-learners-start
--- part-learners-start c = search rules
-
--- TODO part-learners-end : tie.Need-slice-bounds-learners-end
--- part-learners-end c = search rules
-
--- TODO part-staged-start : tie.Need-slice-bounds-staged-start
--- part-staged-start c = search rules
-
--- TODO part-staged-end : tie.Need-slice-bounds-staged-end
--- part-staged-end c = search rules
-
 pub returns-then-v-ne-ACCEPTED : goal.returns-then-v-ne-ACCEPTED
 returns-then-v-ne-ACCEPTED c = let ws = c.args.s.now in
     let long : length ws ≡ 967 = c.requires in

@@ -11,12 +11,6 @@ use Rattle.unplug.proofs.WordBlocks.{part_words, records_64, records-zeros}
 use Rattle.unplug.proofs.Unplugged.{records_active, records_paused, told_ill, told_well}
 use Rattle.unplug.proofs.malformed.Goals as goal
 
--- TODO part-zero-from-start : tie.Need-slice-bounds-zero-from-start
--- part-zero-from-start c = search rules
-
--- TODO part-zero-from-end : tie.Need-slice-bounds-zero-from-end
--- part-zero-from-end c = search rules
-
 pub returns-then-malformed_at : goal.returns-then-malformed_at
 unfolding tracker_well_formed conf_well_formed
 returns-then-malformed_at c = let ws = c.args.s.now in

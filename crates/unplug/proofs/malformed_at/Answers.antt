@@ -5,12 +5,6 @@ use native.Mathlib.Omega.{arith}
 use Rattle.unplug.proofs.WordBlocks.{part_words}
 use Rattle.unplug.proofs.malformed_at.Goals as goal
 
--- TODO part-malformed-in-start : tie.Need-slice-bounds-malformed-in-start
--- part-malformed-in-start c = search rules
-
--- TODO part-malformed-in-end : tie.Need-slice-bounds-malformed-in-end
--- part-malformed-in-end c = search rules
-
 pub returns : goal.returns
 returns c = let a = c.args in
     let long : a.k + 64 - a.k ≡ 64 = omega arith in

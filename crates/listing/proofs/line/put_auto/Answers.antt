@@ -3,9 +3,6 @@ use native.Mathlib.Omega.{arith}
 use Rattle.text.proofs.Laws.{put_none}
 use Rattle.listing.proofs.line.put_auto.Goals as goal
 
--- TODO slice-aggregate-put-bytes : tie.Need-slice-aggregate-put-bytes
--- slice-aggregate-put-bytes c = search rules
-
 pub returns-then-auto : goal.returns-then-auto
 returns-then-auto c = rw c.if-auto.true c.put_bytes.ensures
 

@@ -4,18 +4,6 @@ use Rattle.text.proofs.Laws.{rest_all, rest_put, rest-last, put-length}
 use Rattle.listing.specs.Lines.{conf_text}
 use Rattle.listing.proofs.line.put_conf.Goals as goal
 
--- TODO slice-aggregate-put-bytes : tie.Need-slice-aggregate-put-bytes
--- slice-aggregate-put-bytes c = search rules
-
--- TODO slice-aggregate-put-labelled : tie.Need-slice-aggregate-put-labelled
--- slice-aggregate-put-labelled c = search rules
-
--- TODO slice-aggregate-put-labelled-2 : tie.Need-slice-aggregate-put-labelled-2
--- slice-aggregate-put-labelled-2 c = search rules
-
--- TODO slice-aggregate-put-labelled-3 : tie.Need-slice-aggregate-put-labelled-3
--- slice-aggregate-put-labelled-3 c = search rules
-
 pub returns : goal.returns
 unfolding conf_text
 returns c = rest-last (rest_put (rest_put (rest_put (rest_put (rest_put (rest_all (omega (arith, c.well_formed, c.ranges)) (omega (arith, c.well_formed, c.ranges))) c.put_bytes-a.ensures) c.put_set-b.ensures) c.put_labelled-c.ensures) c.put_labelled-d.ensures) c.put_labelled-e.ensures) c.put_auto.ensures

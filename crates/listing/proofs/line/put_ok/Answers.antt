@@ -4,12 +4,6 @@ use Rattle.text.proofs.Laws.{rest_all, rest_put, rest-last, put-length}
 use Rattle.listing.specs.Lines.{ok_line}
 use Rattle.listing.proofs.line.put_ok.Goals as goal
 
--- TODO slice-aggregate-put-bytes : tie.Need-slice-aggregate-put-bytes
--- slice-aggregate-put-bytes c = search rules
-
--- TODO slice-aggregate-put-bytes-2 : tie.Need-slice-aggregate-put-bytes-2
--- slice-aggregate-put-bytes-2 c = search rules
-
 pub returns : goal.returns
 unfolding ok_line
 returns c = rest-last (rest_put (rest_put (rest_put (rest_put (rest_put (rest_all (omega (arith, c.well_formed, c.ranges)) (omega (arith, c.well_formed, c.ranges))) c.put_decimal-a.ensures) c.put_bytes-b.ensures) c.put_conf-c.ensures) c.put_bytes-d.ensures) c.put_log-e.ensures) c.put_byte.ensures
