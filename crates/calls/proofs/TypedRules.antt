@@ -9,7 +9,7 @@ use lib.ListN.{length}
 use Rattle.progress.specs.declared.Progress.{Progress}
 use Rattle.progress.specs.Record.{fresh_record}
 use Rattle.rules.specs.Ids.{insert_all, insert_id, is_empty, memb, minus, remove_id}
-use Rattle.rules.specs.State.{Change, Conf, ConfState, Entry, Kind, Peer, State, add, addLearner, addNode, conf_formed, formed, ids, log_formed, remove, removeNode}
+use Rattle.rules.specs.State.{Change, Conf, ConfState, Entry, Kind, Peer, State, add, add_learner, add_node, conf_formed, formed, ids, log_formed, remove, remove_node}
 use Rattle.rules.specs.Answers.{Answer, Outcome, Verdict, ◌⇒◌, ◌▸◌, accepted, each, fault, ok, refuse, refused, settle}
 use Rattle.rules.specs.Check.{check, check_state, is_tracked, joint}
 use Rattle.rules.specs.Table.{Effect, Standing, adds, place, places_of, put, removes, stays, table}
@@ -319,9 +319,9 @@ one_u64 (more h hs) = more (by_simple (more h none)) (one_u64 hs)
 steps_u64 : {k : ConfState} → U64Lists k → Each U64Step (restore_steps k)
 unfolding restore_steps
 steps_u64 {k} z =
-    let w : Each U64Change (wanted k) = each_append (every_u64 addNode z.voters) (each_append (every_u64 addLearner z.learners) (every_u64 addLearner z.learners_next)) in
+    let w : Each U64Change (wanted k) = each_append (every_u64 add_node z.voters) (each_append (every_u64 add_learner z.learners) (every_u64 add_learner z.learners_next)) in
     either (Each U64Step) (is_empty k.voters_outgoing) (one_u64 w)
-    (each_append (one_u64 (every_u64 addNode z.voters_outgoing)) (more (by_enter (each_append (every_u64 removeNode z.voters_outgoing) w)) none))
+    (each_append (one_u64 (every_u64 add_node z.voters_outgoing)) (more (by_enter (each_append (every_u64 remove_node z.voters_outgoing) w)) none))
 
 guarded_u64 : {v : Verdict} {s : State} {o : Outcome} → Said v → U64State s → U64Outcome o → U64Outcome (guarded v s o)
 guarded_u64 passed z q = q

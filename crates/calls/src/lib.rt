@@ -6,7 +6,7 @@ ghost use Rattle.std.specs.Prelude.{◌≡◌, min, length};
 ghost use Rattle.tracker.specs.ConfStates.{written_of};
 ghost use Rattle.confstate.specs.Entries.{read_answer, read_leaves, write_answer, write_leaves};
 ghost use Rattle.comparison.specs.Compare.{compare_answer, compare_leaves};
-ghost use Rattle.calls.specs.Call.{from_verdict, from_answer, from_outcome, from_written, reply as replyOf, no_log, no_lists, ask_in, restored_in, reply_to, call_answer, call_leaves};
+ghost use Rattle.calls.specs.Call.{from_verdict, from_answer, from_outcome, from_written, reply as reply_of, no_log, no_lists, ask_in, restored_in, reply_to, call_answer, call_leaves};
 ghost use Rattle.calls.specs.Unplugs.{unplug_answer, unplug_leaves};
 
 use crate::read::ChangeList;
@@ -163,14 +163,14 @@ fn from_verdict(t: Tracker, v: Verdict) -> Reply
 }
 
 fn from_yes(t: Tracker, yes: bool) -> Reply
-    ensures { result ≡ replyOf 0 0 yes t no_log no_lists 0 }
+    ensures { result ≡ reply_of 0 0 yes t no_log no_lists 0 }
 {
     reply_of(0, 0, yes, t)
 }
 
 // Of the answers that give neither log nor lists.
 fn reply_of(number: u64, id: u64, yes: bool, t: Tracker) -> Reply
-    ensures { result ≡ replyOf number id yes t no_log no_lists 0 }
+    ensures { result ≡ reply_of number id yes t no_log no_lists 0 }
 {
     let log = ChangeLog::new();
     let conf_state = ConfState::new();

@@ -1,7 +1,7 @@
 // A request, read off its bytes: docs/EMBEDDING.md. Places are counted in words.
 ghost use Rattle.std.specs.Prelude.{◌≡◌, ◌+◌, ◌*◌, ◌≤◌, get_or};
 ghost use Rattle.unplug.specs.Words.{state_named};
-ghost use Rattle.calls.specs.Layout.{number, word as word_at, words as wordsAt, kind_named, set_at, list_at, conf_at, record_at, records_at, state_at, entries_at, log_at, conf_state_at, kinds_at, change_list_at, within, state_holds, list_holds, holds as holdsIn};
+ghost use Rattle.calls.specs.Layout.{number, word as word_at, words as words_at, kind_named, set_at, list_at, conf_at, record_at, records_at, state_at, entries_at, log_at, conf_state_at, kinds_at, change_list_at, within, state_holds, list_holds, holds as holds_in};
 
 use idset::IdSet;
 use progress::{Progress, ProgressState};
@@ -33,7 +33,7 @@ pub fn word(s: &[u8], k: usize) -> u64
 
 // Whether every word can be held by its field.
 pub fn holds(s: &[u8]) -> bool
-    ensures { result ≡ holdsIn s.now }
+    ensures { result ≡ holds_in s.now }
 {
     if !state_holds(s, 1) {
         return false;
@@ -238,7 +238,7 @@ fn list_at(s: &[u8], k: usize) -> IdList
 // 64 words.
 fn words_at(s: &[u8], k: usize) -> [u64; IdSet::CAPACITY]
     requires { k ≤ 8192 }
-    ensures { result ≡ wordsAt 64 s.now k }
+    ensures { result ≡ words_at 64 s.now k }
 {
     let mut out = [0u64; IdSet::CAPACITY];
     let mut i = 0;
@@ -252,7 +252,7 @@ fn words_at(s: &[u8], k: usize) -> [u64; IdSet::CAPACITY]
 // The 260 ids of a LIST.
 fn ids_at(s: &[u8], k: usize) -> [u64; ChangeList::CAPACITY]
     requires { k ≤ 8192 }
-    ensures { result ≡ wordsAt 260 s.now k }
+    ensures { result ≡ words_at 260 s.now k }
 {
     let mut out = [0u64; ChangeList::CAPACITY];
     let mut i = 0;

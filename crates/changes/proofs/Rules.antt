@@ -63,9 +63,9 @@ fits removes t = t
 
 fits-row : (t : Bool) (a l r : rules.Standing × rules.Effect) → fits a.1 t ≡ true → fits l.1 t ≡ true → fits r.1 t ≡ true
     → (k : state.Kind) → fits (rules.row a l r k).1 t ≡ true
-fits-row t a l r p q s state.addNode = p
-fits-row t a l r p q s state.addLearner = q
-fits-row t a l r p q s state.removeNode = s
+fits-row t a l r p q s state.add_node = p
+fits-row t a l r p q s state.add_learner = q
+fits-row t a l r p q s state.remove_node = s
 
 fits-table : (st : rules.Standing) (k : state.Kind) → fits (table st k).1 (places_of st).tracked ≡ true
 unfolding table

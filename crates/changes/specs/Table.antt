@@ -22,9 +22,9 @@ standing_named IO = rules.IO
 standing_named OS = rules.OS
 
 abbrev pub kind_named : Kind → state.Kind
-kind_named AddNode = state.addNode
-kind_named AddLearnerNode = state.addLearner
-kind_named RemoveNode = state.removeNode
+kind_named AddNode = state.add_node
+kind_named AddLearnerNode = state.add_learner
+kind_named RemoveNode = state.remove_node
 
 abbrev pub effect_named : Effect → rules.Effect
 effect_named Stays = rules.stays

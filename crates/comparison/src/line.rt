@@ -1,7 +1,7 @@
 // The text of a line: document 02, l).
 ghost use Rattle.std.specs.Prelude.{◌≡◌};
 ghost use Rattle.text.specs.Put.{Put};
-ghost use Rattle.comparison.specs.Compare.{same as sameOf, standing_text, line, line_if, flag_line};
+ghost use Rattle.comparison.specs.Compare.{same as same_of, standing_text, line, line_if, flag_line};
 ghost use Rattle.comparison.specs.Steps.{name_text};
 
 // The sets that an id is in.
@@ -24,7 +24,7 @@ pub fn put_id(out: &mut [u8], at: usize, id: u64, s: Standing, t: Standing) -> u
 }
 
 fn same(s: Standing, t: Standing) -> bool
-    ensures { result ≡ sameOf s t }
+    ensures { result ≡ same_of s t }
 {
     s.voters == t.voters && s.outgoing == t.outgoing && s.learners == t.learners && s.next == t.next
 }

@@ -2,7 +2,7 @@
 ghost use Rattle.std.specs.Prelude.{◌≡◌, ◌+◌, ◌≤◌, length, drop};
 ghost use Rattle.idset.specs.Places.{first_is};
 ghost use Rattle.confstate.specs.Words.{list_in};
-ghost use Rattle.comparison.specs.Steps.{Lists, Within, begin as beginOf, lesser_of, least_of, next_of, left_of, firsts_of, past_of, one_of};
+ghost use Rattle.comparison.specs.Steps.{Lists, Within, begin as begin_of, lesser_of, least_of, next_of, left_of, firsts_of, past_of, one_of};
 
 use crate::line::Standing;
 use confstate::{LEARNERS, NEXT, OUTGOING, VOTERS};
@@ -25,7 +25,7 @@ pub struct Found {
 
 // The first place of each list.
 pub fn begin() -> Places
-    ensures { result ≡ beginOf }
+    ensures { result ≡ begin_of }
 {
     Places {
         voters: 0,

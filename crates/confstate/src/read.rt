@@ -1,8 +1,8 @@
 // The reader. Refusals: 28, 29, 30; the first faulty field's, and within it the lower.
 ghost use Rattle.std.specs.Prelude.{◌≡◌, not, cond, [], ◌∷◌, ◌-◌, ◌≤◌, ◌<◌, eqb, ltb, length, drop, replicate, set};
 ghost use Rattle.rules.specs.Apply.{no_conf_state};
-ghost use Rattle.rules.specs.Wire.{numbered, single as singleOf, length_in, varint_in};
-ghost use Rattle.rules.specs.Message.{all, grown, packed as packedIn, read as read_of};
+ghost use Rattle.rules.specs.Wire.{numbered, single as single_of, length_in, varint_in};
+ghost use Rattle.rules.specs.Message.{all, grown, packed as packed_in, read as read_of};
 ghost use Rattle.confstate.specs.Words.{flag_word, conf_state_words, list_in, message_in};
 ghost use Rattle.confstate.specs.Entries.{read_answer, read_leaves};
 ghost use Rattle.confstate.specs.Steps.{Holding, Listing, Grows, Reads, Takes, held_at, field_at, fixed_at};
@@ -108,7 +108,7 @@ fn misnumbered(number: u64) -> bool
 // A varint: a number of a list, or the flag.
 fn varint_field(bytes: &[u8], at: usize, number: u64, words: &mut [u64]) -> Taken
     requires { Holding words.old }
-    ensures { Takes (held_at at number (message_in words.old) (singleOf (varint_in (drop at bytes.now)))) result words.new }
+    ensures { Takes (held_at at number (message_in words.old) (single_of (varint_in (drop at bytes.now)))) result words.new }
 {
     let v = wire::read_varint(bytes, at);
     if v.fault != 0 {
@@ -215,7 +215,7 @@ fn single(value: u64, list: &mut [u64]) -> u64
 // Packed numbers after those of a list, those of one byte first. A cut one ends it; that one was over, or that there are more than 64, is told at the end.
 fn packed(bytes: &[u8], list: &mut [u64]) -> u64
     requires { Listing list.old }
-    ensures { Grows (grown (list_in list.old 0) (packedIn bytes.now)) result list.new }
+    ensures { Grows (grown (list_in list.old 0) (packed_in bytes.now)) result list.new }
 {
     let mut n = list[64] as usize;
     let mut over = false;

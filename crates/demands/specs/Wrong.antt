@@ -5,7 +5,7 @@ use Rattle.std.proofs.Common.{ap, arith}
 use Rattle.progress.specs.Record.{fresh_record}
 use Rattle.progress.specs.declared.Progress.{Progress}
 use Rattle.rules.specs.Ids.{above, ascending, insert_all, insert_id, memb, minus, remove_id}
-use Rattle.rules.specs.State.{Change, ConfState, Entry, Kind, Peer, State, add, addLearner, addNode, conf_formed, formed, fresh, ids, log_formed, remove, removeNode}
+use Rattle.rules.specs.State.{Change, ConfState, Entry, Kind, Peer, State, add, add_learner, add_node, conf_formed, formed, fresh, ids, log_formed, remove, remove_node}
 use Rattle.rules.specs.Answers.{Answer, accepted, each, fault, ok, refused}
 use Rattle.rules.specs.Check.{check}
 use Rattle.rules.specs.Table.{I, L, OS, Standing, none, standing_in, table}
@@ -59,9 +59,9 @@ cancelling = (refl, refl, refl, refl)
 -- ** A changer that gives a demoted voter a fresh record (example 8)
 
 abbrev demotes : Kind → Bool
-demotes addNode = false
-demotes addLearner = true
-demotes removeNode = false
+demotes add_node = false
+demotes add_learner = true
+demotes remove_node = false
 
 -- a demotion logged as an admission
 unfoldable pub demotions : List ℕ → List Change → List Entry
@@ -122,7 +122,7 @@ as_sets_lem = (refl, refl)
 -- ** A restore that takes the learners first: what was written out does not come back
 
 abbrev learners_first : ConfState → List Step
-learners_first cs = one_by_one (all addLearner cs.learners ++ all addNode cs.voters)
+learners_first cs = one_by_one (all add_learner cs.learners ++ all add_node cs.voters)
 
 -- voters (1), learners (2), written out and restored to fresh
 pub learners-first : (restore (fresh 256) (to_conf_state s12).conf_state 77 ≡ record { verdict = ok; state = of (new 1 ∷ new 2 ∷ []) s12.conf })

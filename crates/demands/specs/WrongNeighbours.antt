@@ -3,7 +3,7 @@
 use Rattle.std.specs.Prelude.{◌≡◌, refl, Bool, true, false, List, [], ◌∷◌, ℕ, leb}
 use Rattle.std.proofs.Common.{◌∙◌, sym, true≢false}
 use Rattle.rules.specs.Ids.{above, apart, ascending, insert_all, insert_id, is_empty, memb, minus, remove_id, same_ids}
-use Rattle.rules.specs.State.{Change, Conf, State, add, addLearner, addNode, conf_formed, formed, ids, log_formed, remove, removeNode}
+use Rattle.rules.specs.State.{Change, Conf, State, add, add_learner, add_node, conf_formed, formed, ids, log_formed, remove, remove_node}
 use Rattle.rules.specs.Answers.{Answer, ◌⇒◌, ◌▸◌, accepted, each, ok, refuse, refused}
 use Rattle.rules.specs.Check.{check, in_order, is_tracked, joint}
 use Rattle.rules.specs.Table.{standing_in, table}
@@ -39,7 +39,7 @@ lenient_simple s cs =
 
 -- remove 3, add 4
 abbrev swap : List Change
-swap = record { kind = removeNode; id = 3 } ∷ record { kind = addNode; id = 4 } ∷ []
+swap = record { kind = remove_node; id = 3 } ∷ record { kind = add_node; id = 4 } ∷ []
 
 -- voters (1 2 4)
 abbrev swapped : Conf
@@ -65,7 +65,7 @@ forgetful_enter s auto cs =
 
 -- learner 3, add 4
 abbrev demote : List Change
-demote = record { kind = addLearner; id = 3 } ∷ record { kind = addNode; id = 4 } ∷ []
+demote = record { kind = add_learner; id = 3 } ∷ record { kind = add_node; id = 4 } ∷ []
 
 -- (1 2 4)&&(1 2 3), staged (3); voters (1 2 4), learners (3)
 abbrev entered : Conf

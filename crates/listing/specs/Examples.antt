@@ -4,7 +4,7 @@ use Rattle.std.specs.Prelude.{ℕ, ◌≡◌, refl, true, false, List, [], ◌�
 use Rattle.progress.specs.Record.{is_unused}
 use Rattle.rules.specs.Ids.{memb, above, ascending, insert_id, insert_all, remove_id, minus}
 use Rattle.rules.specs.State.{State, ids, conf_formed, formed, add, remove, log_formed}
-use Rattle.rules.specs.Answers.{each as eachTest}
+use Rattle.rules.specs.Answers.{each as each_test}
 use Rattle.rules.specs.Check.{check}
 use Rattle.rules.specs.Table.{table, standing_in}
 use Rattle.rules.specs.Changes.{last_says, pending, change, changes}
@@ -42,7 +42,7 @@ input = all (rec 0 1 ∷ rec 3 10 ∷ rec 0 2 ∷ rec 0 3 ∷ rec 3 11 ∷ rec 0
 
 -- A replay that is correct only for its first call goes wrong from the second line on; one that applies no accepted answer has 15 at the third.
 pub paper : listing input ≡ ascii "1 ok voters=(1) log=(+1)\n2 refused 18 id 0\n3 ok voters=(1 2 3)&&(1) autoleave log=(+2 +3)\n4 ok voters=(1 2 3) log=()\n"
-unfolding listing lines stops shown ending answer_to after number labelled conf_text entry_text entries_text log_text ok_line refused_line stopped_line simple enter_joint leave_joint readable list_of simple_of enter_of leave_of check eachTest changes change table standing_in last_says pending removals apply_conf room enrol formed conf_formed log_formed memb above ascending insert_id insert_all remove_id minus ids track untrack group words each decimal digits
+unfolding listing lines stops shown ending answer_to after number labelled conf_text entry_text entries_text log_text ok_line refused_line stopped_line simple enter_joint leave_joint readable list_of simple_of enter_of leave_of check each_test changes change table standing_in last_says pending removals apply_conf room enrol formed conf_formed log_formed memb above ascending insert_id insert_all remove_id minus ids track untrack group words each decimal digits
 paper = refl
 
 pub ways_to_stop :
@@ -56,7 +56,7 @@ pub ways_to_stop :
     × (listing (rec 0 1 ++ rec 6 2) ≡ ascii "stopped at byte 9\n")
     -- nothing printed where changes are pending at the end
     × (listing (rec 0 1) ≡ ascii "stopped at byte 9\n")
-unfolding listing lines stops shown ending answer_to after number labelled conf_text entry_text entries_text log_text ok_line refused_line stopped_line simple enter_joint leave_joint readable list_of simple_of enter_of leave_of check eachTest changes change table standing_in last_says pending removals apply_conf room enrol formed conf_formed log_formed memb above ascending insert_id insert_all remove_id minus ids track untrack group words each decimal digits
+unfolding listing lines stops shown ending answer_to after number labelled conf_text entry_text entries_text log_text ok_line refused_line stopped_line simple enter_joint leave_joint readable list_of simple_of enter_of leave_of check each_test changes change table standing_in last_says pending removals apply_conf room enrol formed conf_formed log_formed memb above ascending insert_id insert_all remove_id minus ids track untrack group words each decimal digits
 ways_to_stop = (refl, refl, refl, refl, refl)
 
 pub replied :
@@ -108,7 +108,7 @@ pub turned :
     -- that keeps the pending list, or does not count the line, where the answer is a refusal
     × (session_of (after_in (holding 1) 4 77) ≡ settled s0 1)
     × (shown_in (holding 1) 4 ≡ ascii "1 refused 15 id 0\n")
-unfolding after_in shown_in pend_in answer_in applied_in answer_text applied_to apply_of simple_answer enter_answer tracker_well_formed conf_well_formed well_formed zeros all_unused is_unused set_of record_places records_of peers_of log_well_formed all_blank is_blank change_log_of map_changes_of entries_of listing lines stops shown ending answer_to after number labelled conf_text entry_text entries_text log_text ok_line refused_line stopped_line simple enter_joint leave_joint readable list_of simple_of enter_of leave_of check eachTest changes change table standing_in last_says pending removals apply_conf room enrol formed conf_formed log_formed memb above ascending insert_id insert_all remove_id minus ids track untrack group words each decimal digits
+unfolding after_in shown_in pend_in answer_in applied_in answer_text applied_to apply_of simple_answer enter_answer tracker_well_formed conf_well_formed well_formed zeros all_unused is_unused set_of record_places records_of peers_of log_well_formed all_blank is_blank change_log_of map_changes_of entries_of listing lines stops shown ending answer_to after number labelled conf_text entry_text entries_text log_text ok_line refused_line stopped_line simple enter_joint leave_joint readable list_of simple_of enter_of leave_of check each_test changes change table standing_in last_says pending removals apply_conf room enrol formed conf_formed log_formed memb above ascending insert_id insert_all remove_id minus ids track untrack group words each decimal digits
 turned = (refl, refl, refl, refl, refl, refl)
 
 -- ** Texts and numbers

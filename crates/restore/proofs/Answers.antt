@@ -8,7 +8,7 @@ use borrow.Author.Tests.{eq-eqb, ne_eqb, le-leb, le-ltb, lt-ltb, ltb-false, not-
 use lib.Dec.{ltb}
 use lib.ListN.{length, take, length-take}
 use Rattle.rules.specs.Ids.{is_empty}
-use Rattle.rules.specs.State.{Change, addLearner, addNode}
+use Rattle.rules.specs.State.{Change, add_learner, add_node}
 use Rattle.rules.specs.Answers.{ok}
 use Rattle.rules.specs.Restore as rules
 use Rattle.rules.specs.Restore.{Step, all, enter_step, one_by_one, restorable, restore_steps, short, simple_step, wanted}
@@ -111,13 +111,13 @@ module _ (t : Tracker) (w : tracker_well_formed t ≡ true) (next : ℕ) (cs : L
 
 module _ (t : Tracker) (w : tracker_well_formed t ≡ true) (cs : ConfState) (next : ℕ) where
   abbrev added : List Change
-  added = all addNode (entries_in cs.voters)
+  added = all add_node (entries_in cs.voters)
 
   abbrev learning : List Change
-  learning = all addLearner (entries_in cs.learners)
+  learning = all add_learner (entries_in cs.learners)
 
   abbrev staging : List Change
-  staging = all addLearner (entries_in cs.learners_next)
+  staging = all add_learner (entries_in cs.learners_next)
 
   module _ {o : Outcome} (e : o ≡ steps_of t next (one_by_one added)) where
     pub single_1 : (o.number ≡ 0 → ⊥) → o ≡ steps_of t next (one_by_one (wanted (lists_of cs)))
@@ -137,7 +137,7 @@ module _ (t : Tracker) (w : tracker_well_formed t ≡ true) (cs : ConfState) (ne
       single_3 y g = g ∙ one_on o.tracker single-formed next learning f y staging ∙ one_on t w next added e z (learning ++ staging)
 
   abbrev removed : List Change
-  removed = all addNode (entries_in cs.voters_outgoing)
+  removed = all add_node (entries_in cs.voters_outgoing)
 
   abbrev last : List Step
   last = enter_step cs.auto_leave (entered cs) ∷ []

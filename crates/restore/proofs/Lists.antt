@@ -9,7 +9,7 @@ use borrow.Author.Tests.{eq-eqb, le-ltb}
 use lib.Dec.{ltb}
 use lib.ListN.{length, take, get_or, set, replicate, length-append, length-take, length-set, replicate-append-replicate}
 use lib.Seq.{length-take-le, take-suc, take-suc-set}
-use Rattle.rules.specs.State.{Change, addLearner, addNode, removeNode}
+use Rattle.rules.specs.State.{Change, add_learner, add_node, remove_node}
 use Rattle.rules.specs.Answers.{Verdict, each, ok, refuse, ◌▸◌}
 use Rattle.rules.specs.Calls.{kind_of, list_of, readable}
 use Rattle.rules.specs.Restore.{all}
@@ -99,7 +99,7 @@ listed-all cs c₀ c₁ c₂ c₃ c₄ z a b d e h =
     i₀ : In c₀ []
     i₀ = rw z reads_none
 
-    i₄ : In c₄ (((all removeNode (entries_in cs.voters_outgoing) ++ all addNode (entries_in cs.voters)) ++ all addLearner (entries_in cs.learners)) ++ all addLearner (entries_in cs.learners_next))
+    i₄ : In c₄ (((all remove_node (entries_in cs.voters_outgoing) ++ all add_node (entries_in cs.voters)) ++ all add_learner (entries_in cs.learners)) ++ all add_learner (entries_in cs.learners_next))
     i₄ = one_more 2 (omega arith) (one_more 2 (omega arith) (one_more 0 (omega arith) (one_more 1 (omega arith) i₀ a) b) d) e
 
 -- ** The turns of `append`

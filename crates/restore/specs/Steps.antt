@@ -1,6 +1,6 @@
 -- What the private functions of `restore` answer: a change list in arrays, and the steps where there are outgoing voters. Assumes nothing.
 use Rattle.std.specs.Prelude.{ℕ, ◌+◌, ◌≤◌, ◌≡◌, List, [], ◌∷◌, ◌++◌, length, take, replicate}
-use Rattle.rules.specs.State.{Change, addNode, removeNode}
+use Rattle.rules.specs.State.{Change, add_node, remove_node}
 use Rattle.rules.specs.Answers.{ok}
 use Rattle.rules.specs.Calls.{list_of, readable}
 use Rattle.rules.specs.Restore.{Step, all, enter_step, one_by_one, wanted}
@@ -33,8 +33,8 @@ pub record Listed (r : Changes) (cs : List Change) : Type 0 where
 
 -- "remove each outgoing, add each voter, add-learner each learner, then each staged"
 abbrev pub entered : ConfState → List Change
-entered cs = all removeNode (entries_in cs.voters_outgoing) ++ wanted (lists_of cs)
+entered cs = all remove_node (entries_in cs.voters_outgoing) ++ wanted (lists_of cs)
 
 -- "one `simple` AddNode per outgoing id, then one `enter_joint`"
 abbrev pub joint_steps : ConfState → List Step
-joint_steps cs = one_by_one (all addNode (entries_in cs.voters_outgoing)) ++ (enter_step cs.auto_leave (entered cs) ∷ [])
+joint_steps cs = one_by_one (all add_node (entries_in cs.voters_outgoing)) ++ (enter_step cs.auto_leave (entered cs) ∷ [])

@@ -10,7 +10,7 @@ use lib.ListN.{length}
 use Rattle.progress.specs.Record.{fresh_record}
 use Rattle.progress.specs.declared.Progress.{Progress}
 use Rattle.rules.specs.Ids.{ascending, is_empty, memb, remove_id}
-use Rattle.rules.specs.State.{Change, Conf, Kind, Peer, State, add, addLearner, addNode, ids, remove, removeNode}
+use Rattle.rules.specs.State.{Change, Conf, Kind, Peer, State, add, add_learner, add_node, ids, remove, remove_node}
 use Rattle.rules.specs.Answers.{accepted, ok}
 use Rattle.rules.specs.Check.{check, is_tracked, joint}
 use Rattle.rules.specs.Table.{Effect, I, IO, L, O, OS, Places, Standing, adds, idle, none, place, places_of, removes, standing_in, stays, table}
@@ -187,27 +187,27 @@ is_adds removes = false
 
 adds-untracked : (st : Standing) (k : Kind) → is_adds (table st k).1 ≡ true → (places_of st).tracked ≡ false
 unfolding table
-adds-untracked none addNode h = refl
-adds-untracked none addLearner h = refl
-adds-untracked none removeNode h = refl
-adds-untracked idle addNode h = absurd (false≢true h)
-adds-untracked idle addLearner h = absurd (false≢true h)
-adds-untracked idle removeNode h = absurd (false≢true h)
-adds-untracked I addNode h = absurd (false≢true h)
-adds-untracked I addLearner h = absurd (false≢true h)
-adds-untracked I removeNode h = absurd (false≢true h)
-adds-untracked L addNode h = absurd (false≢true h)
-adds-untracked L addLearner h = absurd (false≢true h)
-adds-untracked L removeNode h = absurd (false≢true h)
-adds-untracked O addNode h = absurd (false≢true h)
-adds-untracked O addLearner h = absurd (false≢true h)
-adds-untracked O removeNode h = absurd (false≢true h)
-adds-untracked IO addNode h = absurd (false≢true h)
-adds-untracked IO addLearner h = absurd (false≢true h)
-adds-untracked IO removeNode h = absurd (false≢true h)
-adds-untracked OS addNode h = absurd (false≢true h)
-adds-untracked OS addLearner h = absurd (false≢true h)
-adds-untracked OS removeNode h = absurd (false≢true h)
+adds-untracked none add_node h = refl
+adds-untracked none add_learner h = refl
+adds-untracked none remove_node h = refl
+adds-untracked idle add_node h = absurd (false≢true h)
+adds-untracked idle add_learner h = absurd (false≢true h)
+adds-untracked idle remove_node h = absurd (false≢true h)
+adds-untracked I add_node h = absurd (false≢true h)
+adds-untracked I add_learner h = absurd (false≢true h)
+adds-untracked I remove_node h = absurd (false≢true h)
+adds-untracked L add_node h = absurd (false≢true h)
+adds-untracked L add_learner h = absurd (false≢true h)
+adds-untracked L remove_node h = absurd (false≢true h)
+adds-untracked O add_node h = absurd (false≢true h)
+adds-untracked O add_learner h = absurd (false≢true h)
+adds-untracked O remove_node h = absurd (false≢true h)
+adds-untracked IO add_node h = absurd (false≢true h)
+adds-untracked IO add_learner h = absurd (false≢true h)
+adds-untracked IO remove_node h = absurd (false≢true h)
+adds-untracked OS add_node h = absurd (false≢true h)
+adds-untracked OS add_learner h = absurd (false≢true h)
+adds-untracked OS remove_node h = absurd (false≢true h)
 
 module _ (r : Progress) (ps : List Peer) (up : ascending (ids ps) ≡ true) (T : List ℕ) (T↑ : ascending T ≡ true) (T64 : length T ≤ 64) where
   abbrev pub inside : List Change → Type 0

@@ -7,7 +7,7 @@ use borrow.Author.Tests.{eq-eqb, eqb-true}
 use lib.Dec.{eqb}
 use Rattle.progress.specs.declared.Progress.{Progress}
 use Rattle.rules.specs.Ids.{ascending, memb}
-use Rattle.rules.specs.State.{Conf, Kind, Peer, addLearner, addNode, ids, removeNode}
+use Rattle.rules.specs.State.{Conf, Kind, Peer, add_learner, add_node, ids, remove_node}
 use Rattle.rules.specs.Table.{Effect, I, IO, L, O, OS, Places, Standing, adds, idle, none, place, places, places_in, places_of, put, removes, standing_in, stays, table}
 use Rattle.rules.specs.Apply.{track, untrack}
 use Rattle.rules.specs.Boxes.{Box, Found, change_box, kept, record_of}
@@ -34,27 +34,27 @@ row-places : (s : Standing) (k : Kind)
     → places (tracked_after (table s k).1 (places_of s).tracked) (places_of (table s k).0).incoming (places_of s).outgoing (places_of (table s k).0).learner (places_of (table s k).0).staged
     ≡ places_of (table s k).0
 unfolding table
-row-places none addNode = refl
-row-places none addLearner = refl
-row-places none removeNode = refl
-row-places idle addNode = refl
-row-places idle addLearner = refl
-row-places idle removeNode = refl
-row-places I addNode = refl
-row-places I addLearner = refl
-row-places I removeNode = refl
-row-places L addNode = refl
-row-places L addLearner = refl
-row-places L removeNode = refl
-row-places O addNode = refl
-row-places O addLearner = refl
-row-places O removeNode = refl
-row-places IO addNode = refl
-row-places IO addLearner = refl
-row-places IO removeNode = refl
-row-places OS addNode = refl
-row-places OS addLearner = refl
-row-places OS removeNode = refl
+row-places none add_node = refl
+row-places none add_learner = refl
+row-places none remove_node = refl
+row-places idle add_node = refl
+row-places idle add_learner = refl
+row-places idle remove_node = refl
+row-places I add_node = refl
+row-places I add_learner = refl
+row-places I remove_node = refl
+row-places L add_node = refl
+row-places L add_learner = refl
+row-places L remove_node = refl
+row-places O add_node = refl
+row-places O add_learner = refl
+row-places O remove_node = refl
+row-places IO add_node = refl
+row-places IO add_learner = refl
+row-places IO remove_node = refl
+row-places OS add_node = refl
+row-places OS add_learner = refl
+row-places OS remove_node = refl
 
 pub memb-put : (b : Bool) (x y : ℕ) (xs : List ℕ) → ascending xs ≡ true → memb y (put b x xs) ≡ cond (eqb x y) b (memb y xs)
 memb-put true x y xs a = memb_insert x y xs ∙ go (eqb x y)

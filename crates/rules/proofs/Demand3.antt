@@ -10,7 +10,7 @@ use lib.ListN.{length, length-append}
 use Rattle.progress.specs.Record.{fresh_record}
 use Rattle.progress.specs.declared.Progress.{Progress}
 use Rattle.rules.specs.Ids.{is_empty}
-use Rattle.rules.specs.State.{Change, Conf, ConfState, Entry, Kind, State, addLearner, addNode, formed, no_conf, removeNode}
+use Rattle.rules.specs.State.{Change, Conf, ConfState, Entry, Kind, State, add_learner, add_node, formed, no_conf, remove_node}
 use Rattle.rules.specs.Answers.{Answer, Outcome, Verdict, ◌⇒◌, ◌▸◌, accepted, each, fault, ok, refuse, refused, settle}
 use Rattle.rules.specs.Check.{in_order}
 use Rattle.rules.specs.Calls.{enter_joint, leave_joint, leave_of, list_of, readable, simple}
@@ -88,7 +88,7 @@ restore-short s cs h = go (is_empty cs.voters_outgoing)
     vl : v && l ≡ true
     vl = and_left (v && l) o vlo
 
-    total : length (all removeNode cs.voters_outgoing ++ (all addNode cs.voters ++ (all addLearner cs.learners ++ all addLearner cs.learners_next))) ≤ 256
+    total : length (all remove_node cs.voters_outgoing ++ (all add_node cs.voters ++ (all add_learner cs.learners ++ all add_learner cs.learners_next))) ≤ 256
     total =
         let nv : length cs.voters ≤ 64 = leb-true (length cs.voters) 64 (and_left v l vl) in
         let nl : length cs.learners ≤ 64 = leb-true (length cs.learners) 64 (and_right v l vl) in
@@ -96,9 +96,9 @@ restore-short s cs h = go (is_empty cs.voters_outgoing)
         let ng : length cs.learners_next ≤ 64 = leb-true (length cs.learners_next) 64 (and_right (v && l && o) g fit) in
         simp (length-append, length-of) (omega arith)
 
-    go : (b : Bool) → all_short (cond b (one_by_one (wanted cs)) (one_by_one (all addNode cs.voters_outgoing) ++ (enter_step cs.auto_leave (all removeNode cs.voters_outgoing ++ wanted cs) ∷ [])))
+    go : (b : Bool) → all_short (cond b (one_by_one (wanted cs)) (one_by_one (all add_node cs.voters_outgoing) ++ (enter_step cs.auto_leave (all remove_node cs.voters_outgoing ++ wanted cs) ∷ [])))
     go true = one_only (wanted cs)
-    go false = one-short (all addNode cs.voters_outgoing) (enter_step cs.auto_leave (all removeNode cs.voters_outgoing ++ wanted cs) ∷ []) (total, tt)
+    go false = one-short (all add_node cs.voters_outgoing) (enter_step cs.auto_leave (all remove_node cs.voters_outgoing ++ wanted cs) ∷ []) (total, tt)
 
 -- ** An accepted call is an accepted step, of a well-formed state and with a list that can be read
 

@@ -11,7 +11,7 @@ use lib.ListN.{length, length-append}
 use Rattle.progress.specs.Record.{fresh_record}
 use Rattle.progress.specs.declared.Progress.{Progress}
 use Rattle.rules.specs.Ids.{ascending}
-use Rattle.rules.specs.State.{Change, Conf, Entry, Kind, Peer, State, add, addLearner, addNode, formed, ids, remove, removeNode}
+use Rattle.rules.specs.State.{Change, Conf, Entry, Kind, Peer, State, add, add_learner, add_node, formed, ids, remove, remove_node}
 use Rattle.rules.specs.Answers.{Answer, Verdict, ◌▸◌, accepted, each, ok, refuse, refused}
 use Rattle.rules.specs.Check.{check, is_tracked, joint}
 use Rattle.rules.specs.Table.{Effect, I, IO, L, O, OS, Places, Standing, adds, idle, none, place, places_in, places_of, removes, standing_in, stays, table}
@@ -42,27 +42,27 @@ any_told s p = told (places_of s).incoming p.incoming || told (places_of s).lear
 
 row_told : (s : Standing) (k : Kind) → idle_row s k ≡ not (any_told (table s k).0 (places_of s)) && logs_nothing (table s k).1
 unfolding table idle_row
-row_told none addNode = refl
-row_told none addLearner = refl
-row_told none removeNode = refl
-row_told idle addNode = refl
-row_told idle addLearner = refl
-row_told idle removeNode = refl
-row_told I addNode = refl
-row_told I addLearner = refl
-row_told I removeNode = refl
-row_told L addNode = refl
-row_told L addLearner = refl
-row_told L removeNode = refl
-row_told O addNode = refl
-row_told O addLearner = refl
-row_told O removeNode = refl
-row_told IO addNode = refl
-row_told IO addLearner = refl
-row_told IO removeNode = refl
-row_told OS addNode = refl
-row_told OS addLearner = refl
-row_told OS removeNode = refl
+row_told none add_node = refl
+row_told none add_learner = refl
+row_told none remove_node = refl
+row_told idle add_node = refl
+row_told idle add_learner = refl
+row_told idle remove_node = refl
+row_told I add_node = refl
+row_told I add_learner = refl
+row_told I remove_node = refl
+row_told L add_node = refl
+row_told L add_learner = refl
+row_told L remove_node = refl
+row_told O add_node = refl
+row_told O add_learner = refl
+row_told O remove_node = refl
+row_told IO add_node = refl
+row_told IO add_learner = refl
+row_told IO remove_node = refl
+row_told OS add_node = refl
+row_told OS add_learner = refl
+row_told OS remove_node = refl
 
 module _ (r : Progress) (ps : List Peer) (up : ascending (ids ps) ≡ true) (c : Change) (w : Work) (f : Fine r ps up w) where
   abbrev here : Standing

@@ -10,7 +10,7 @@ use lib.ListN.{length}
 use Rattle.progress.specs.Record.{fresh_record}
 use Rattle.progress.specs.declared.Progress.{Progress}
 use Rattle.rules.specs.Ids.{apart, insert_all, memb, same_ids}
-use Rattle.rules.specs.State.{log_formed, Change, Conf, Entry, Kind, Peer, State, addLearner, addNode, conf_formed, formed, ids, members, removeNode}
+use Rattle.rules.specs.State.{log_formed, Change, Conf, Entry, Kind, Peer, State, add_learner, add_node, conf_formed, formed, ids, members, remove_node}
 use Rattle.rules.specs.Answers.{Verdict, accepted, fault, ok, passes}
 use Rattle.rules.specs.Check.{check, in_order, is_tracked}
 use Rattle.rules.specs.Table.{I, IO, L, O, OS, Places, Standing, idle, none, places_of, standing_in, table}
@@ -30,27 +30,27 @@ use Rattle.rules.proofs.Steps.{Checked, Ordered, Stepped, enter_stepped, is_idle
 
 busy_row : (st : Standing) (k : Kind) → is_idle (table st k).0 ≡ false
 unfolding table
-busy_row none addNode = refl
-busy_row none addLearner = refl
-busy_row none removeNode = refl
-busy_row idle addNode = refl
-busy_row idle addLearner = refl
-busy_row idle removeNode = refl
-busy_row I addNode = refl
-busy_row I addLearner = refl
-busy_row I removeNode = refl
-busy_row L addNode = refl
-busy_row L addLearner = refl
-busy_row L removeNode = refl
-busy_row O addNode = refl
-busy_row O addLearner = refl
-busy_row O removeNode = refl
-busy_row IO addNode = refl
-busy_row IO addLearner = refl
-busy_row IO removeNode = refl
-busy_row OS addNode = refl
-busy_row OS addLearner = refl
-busy_row OS removeNode = refl
+busy_row none add_node = refl
+busy_row none add_learner = refl
+busy_row none remove_node = refl
+busy_row idle add_node = refl
+busy_row idle add_learner = refl
+busy_row idle remove_node = refl
+busy_row I add_node = refl
+busy_row I add_learner = refl
+busy_row I remove_node = refl
+busy_row L add_node = refl
+busy_row L add_learner = refl
+busy_row L remove_node = refl
+busy_row O add_node = refl
+busy_row O add_learner = refl
+busy_row O remove_node = refl
+busy_row IO add_node = refl
+busy_row IO add_learner = refl
+busy_row IO remove_node = refl
+busy_row OS add_node = refl
+busy_row OS add_learner = refl
+busy_row OS remove_node = refl
 
 busy_enter : (st : Standing) → is_idle st ≡ false → is_idle (enter_standing st) ≡ false
 busy_enter none h = refl

@@ -11,7 +11,7 @@ use lib.ListN.{length, length-append}
 use Rattle.progress.specs.Record.{fresh_record}
 use Rattle.progress.specs.declared.Progress.{Progress}
 use Rattle.rules.specs.Ids.{apart, ascending, insert_all, is_empty, memb, same_ids}
-use Rattle.rules.specs.State.{Change, Conf, ConfState, Kind, State, addLearner, addNode, conf_formed, formed, fresh, ids, no_conf, removeNode}
+use Rattle.rules.specs.State.{Change, Conf, ConfState, Kind, State, add_learner, add_node, conf_formed, formed, fresh, ids, no_conf, remove_node}
 use Rattle.rules.specs.Answers.{Outcome, accepted, each, ok}
 use Rattle.rules.specs.Check.{check, in_order, is_tracked, joint}
 use Rattle.rules.specs.Table.{I, IO, L, O, OS, Places, Standing, idle, none, places_of, standing_in, table}
@@ -39,27 +39,27 @@ use Rattle.rules.proofs.Singles.{Good, Ran, changes_append, incoming-of, learner
 
 again : (r : Progress) (k : Kind) (st : Standing) (f : Found) → change_box r k (change_box r k (record { standing = st; held = f })) ≡ change_box r k (record { standing = st; held = f })
 unfolding table
-again r addNode none f = refl
-again r addNode idle f = refl
-again r addNode I f = refl
-again r addNode L f = refl
-again r addNode O f = refl
-again r addNode IO f = refl
-again r addNode OS f = refl
-again r addLearner none f = refl
-again r addLearner idle f = refl
-again r addLearner I f = refl
-again r addLearner L f = refl
-again r addLearner O f = refl
-again r addLearner IO f = refl
-again r addLearner OS f = refl
-again r removeNode none f = refl
-again r removeNode idle f = refl
-again r removeNode I f = refl
-again r removeNode L f = refl
-again r removeNode O f = refl
-again r removeNode IO f = refl
-again r removeNode OS f = refl
+again r add_node none f = refl
+again r add_node idle f = refl
+again r add_node I f = refl
+again r add_node L f = refl
+again r add_node O f = refl
+again r add_node IO f = refl
+again r add_node OS f = refl
+again r add_learner none f = refl
+again r add_learner idle f = refl
+again r add_learner I f = refl
+again r add_learner L f = refl
+again r add_learner O f = refl
+again r add_learner IO f = refl
+again r add_learner OS f = refl
+again r remove_node none f = refl
+again r remove_node idle f = refl
+again r remove_node I f = refl
+again r remove_node L f = refl
+again r remove_node O f = refl
+again r remove_node IO f = refl
+again r remove_node OS f = refl
 
 changes-all : (r : Progress) (y : ℕ) (k : Kind) (xs : List ℕ) → eqb y 0 ≡ false → (b : Box) → changes_box r y (all k xs) b ≡ cond (memb y xs) (change_box r k b) b
 unfolding changes_box all memb
@@ -83,11 +83,11 @@ on t r k b = cond t (change_box r k b) b
 
 -- what restore's changes make of a box: p tells in which sets it is to be
 abbrev alone : Progress → Places → Box
-alone r p = on p.staged r addLearner (on p.learner r addLearner (on p.incoming r addNode nothing))
+alone r p = on p.staged r add_learner (on p.learner r add_learner (on p.incoming r add_node nothing))
 
 abbrev jointly : Progress → Progress → Places → Box
 jointly r q p =
-    on p.staged q addLearner (on p.learner q addLearner (on p.incoming q addNode (on p.outgoing q removeNode (enter_box (on p.outgoing r addNode nothing)))))
+    on p.staged q add_learner (on p.learner q add_learner (on p.incoming q add_node (on p.outgoing q remove_node (enter_box (on p.outgoing r add_node nothing)))))
 
 alone_same : (r : Progress) (st : Standing) → is_idle st ≡ false → (places_of st).outgoing ≡ false → (alone r (places_of st)).standing ≡ st
 unfolding table
@@ -225,31 +225,31 @@ module _ (s : State) (o : Ordered s) (k : Reached s) (m n : ℕ) where
   back-of t q u e h a =
       rw e (record { verdict = refl; conf = same-conf s t o.sound q.sound (all_same t q h) a; tracked = same-tracked s t o.sound q.sound (all_same t q h) })
 
-  wanted-box : (q : Progress) (y : ℕ) → eqb y 0 ≡ false → (b : Box) → changes_box q y (wanted lists) b ≡ on (memb y stg) q addLearner (on (memb y lrn) q addLearner (on (memb y inc) q addNode b))
+  wanted-box : (q : Progress) (y : ℕ) → eqb y 0 ≡ false → (b : Box) → changes_box q y (wanted lists) b ≡ on (memb y stg) q add_learner (on (memb y lrn) q add_learner (on (memb y inc) q add_node b))
   unfolding lists
   wanted-box q y z b =
-      changes_append q y (all addNode inc) (all addLearner lrn ++ all addLearner stg) b
-      ∙ changes_append q y (all addLearner lrn) (all addLearner stg) (changes_box q y (all addNode inc) b)
-      ∙ changes-all q y addLearner stg z (changes_box q y (all addLearner lrn) (changes_box q y (all addNode inc) b))
-      ∙ ap (on (memb y stg) q addLearner) (changes-all q y addLearner lrn z (changes_box q y (all addNode inc) b) ∙ ap (on (memb y lrn) q addLearner) (changes-all q y addNode inc z b))
+      changes_append q y (all add_node inc) (all add_learner lrn ++ all add_learner stg) b
+      ∙ changes_append q y (all add_learner lrn) (all add_learner stg) (changes_box q y (all add_node inc) b)
+      ∙ changes-all q y add_learner stg z (changes_box q y (all add_learner lrn) (changes_box q y (all add_node inc) b))
+      ∙ ap (on (memb y stg) q add_learner) (changes-all q y add_learner lrn z (changes_box q y (all add_node inc) b) ∙ ap (on (memb y lrn) q add_learner) (changes-all q y add_node inc z b))
 
   -- ** Voters one by one, from fresh
 
   module _ (xs : List ℕ) (h : (x : ℕ) → memb x xs ≡ true → memb x T ≡ true) where
-    added : Ran n T f (one_by_one (all addNode xs)) (all addNode xs)
+    added : Ran n T f (one_by_one (all add_node xs)) (all add_node xs)
     added = voters-run n T T↑ o.few xs (good xs h) f of refl nobody
 
     nonzero : (x : ℕ) → memb x xs ≡ true → eqb x 0 ≡ false
     nonzero x i = (good xs h x i).1
 
-    added_box : (y : ℕ) → eqb y 0 ≡ false → box_of added.end y ≡ on (memb y xs) r addNode nothing
-    added_box y z = added.boxes y ∙ changes-all r y addNode xs z (box_of f y) ∙ ap (on (memb y xs) r addNode) (fresh-box m y)
+    added_box : (y : ℕ) → eqb y 0 ≡ false → box_of added.end y ≡ on (memb y xs) r add_node nothing
+    added_box y z = added.boxes y ∙ changes-all r y add_node xs z (box_of f y) ∙ ap (on (memb y xs) r add_node) (fresh-box m y)
 
     added_in : (x : ℕ) → memb x xs ≡ true → memb x added.end.conf.incoming ≡ true
     unfolding table
     added_in x i =
         incoming-of added.end.conf added.end.peers added.ordered.sound x
-        ∙ ap (λ (b : Box). (places_of b.standing).incoming) (added_box x (nonzero x i) ∙ ap (λ (t : Bool). on t r addNode nothing) i)
+        ∙ ap (λ (b : Box). (places_of b.standing).incoming) (added_box x (nonzero x i) ∙ ap (λ (t : Bool). on t r add_node nothing) i)
 
   -- ** Not joint
 
@@ -264,35 +264,35 @@ module _ (s : State) (o : Ordered s) (k : Reached s) (m n : ℕ) where
     unfolding lists all one_by_one
     single_ran = go (is_empty inc) refl
       where
-        none_ran : s.conf ≡ no_conf → Ran n T f (one_by_one (all addNode inc ++ (all addLearner lrn ++ all addLearner stg))) (all addNode inc ++ (all addLearner lrn ++ all addLearner stg))
+        none_ran : s.conf ≡ no_conf → Ran n T f (one_by_one (all add_node inc ++ (all add_learner lrn ++ all add_learner stg))) (all add_node inc ++ (all add_learner lrn ++ all add_learner stg))
         none_ran e = rw (ap (λ (c : Conf). c.incoming) e, ap (λ (c : Conf). c.learners) e, ap (λ (c : Conf). c.staged) e) (ran_none n T T↑ o.few f of refl nobody)
 
-        some_ran : (q : ℕ) × (memb q inc ≡ true) → Ran n T f (one_by_one (all addNode inc ++ (all addLearner lrn ++ all addLearner stg))) (all addNode inc ++ (all addLearner lrn ++ all addLearner stg))
+        some_ran : (q : ℕ) × (memb q inc ≡ true) → Ran n T f (one_by_one (all add_node inc ++ (all add_learner lrn ++ all add_learner stg))) (all add_node inc ++ (all add_learner lrn ++ all add_learner stg))
         some_ran q =
-            let A : Ran n T f (one_by_one (all addNode inc)) (all addNode inc) = added inc p.incoming-tracked in
+            let A : Ran n T f (one_by_one (all add_node inc)) (all add_node inc) = added inc p.incoming-tracked in
             let a : memb q.0 A.end.conf.incoming ≡ true = added_in inc p.incoming-tracked q.0 q.1 in
             let ql : memb q.0 lrn ≡ false = not_both (memb q.0 lrn) (λ e. true≢false (sym q.1 ∙ p.learner-not-incoming q.0 e)) in
             let qg : memb q.0 stg ≡ false = not_both (memb q.0 stg) (λ e. true≢false (sym (p.staged-outgoing q.0 e) ∙ no_joint s.conf j q.0)) in
-            let B : Ran n T A.end (one_by_one (all addLearner lrn)) (all addLearner lrn) =
+            let B : Ran n T A.end (one_by_one (all add_learner lrn)) (all add_learner lrn) =
             learners-run n T T↑ o.few q.0 lrn (good lrn p.learner-tracked) ql A.end A.ordered A.single A.within a in
             let b : memb q.0 B.end.conf.incoming ≡ true =
             incoming-of B.end.conf B.end.peers B.ordered.sound q.0
-            ∙ ap (λ (x : Box). (places_of x.standing).incoming) (B.boxes q.0 ∙ changes-all (fresh_record n A.end.max_inflight) q.0 addLearner lrn (nonzero inc p.incoming-tracked q.0 q.1) (box_of A.end q.0) ∙ ap (λ (t : Bool). on t (fresh_record n A.end.max_inflight) addLearner (box_of A.end q.0)) ql)
+            ∙ ap (λ (x : Box). (places_of x.standing).incoming) (B.boxes q.0 ∙ changes-all (fresh_record n A.end.max_inflight) q.0 add_learner lrn (nonzero inc p.incoming-tracked q.0 q.1) (box_of A.end q.0) ∙ ap (λ (t : Bool). on t (fresh_record n A.end.max_inflight) add_learner (box_of A.end q.0)) ql)
             ∙ sym (incoming-of A.end.conf A.end.peers A.ordered.sound q.0) ∙ a in
-            let C : Ran n T B.end (one_by_one (all addLearner stg)) (all addLearner stg) =
+            let C : Ran n T B.end (one_by_one (all add_learner stg)) (all add_learner stg) =
             learners-run n T T↑ o.few q.0 stg (good stg p.staged-tracked) qg B.end B.ordered B.single B.within b in
-            rw (one_append (all addNode inc) (all addLearner lrn ++ all addLearner stg), one_append (all addLearner lrn) (all addLearner stg))
-            (ran_more n T T↑ o.few f (one_by_one (all addNode inc)) (one_by_one (all addLearner lrn) ++ one_by_one (all addLearner stg)) (all addNode inc) (all addLearner lrn ++ all addLearner stg) A
-            (ran_more n T T↑ o.few A.end (one_by_one (all addLearner lrn)) (one_by_one (all addLearner stg)) (all addLearner lrn) (all addLearner stg) B C))
+            rw (one_append (all add_node inc) (all add_learner lrn ++ all add_learner stg), one_append (all add_learner lrn) (all add_learner stg))
+            (ran_more n T T↑ o.few f (one_by_one (all add_node inc)) (one_by_one (all add_learner lrn) ++ one_by_one (all add_learner stg)) (all add_node inc) (all add_learner lrn ++ all add_learner stg) A
+            (ran_more n T T↑ o.few A.end (one_by_one (all add_learner lrn)) (one_by_one (all add_learner stg)) (all add_learner lrn) (all add_learner stg) B C))
 
-        go : (b : Bool) → is_empty inc ≡ b → Ran n T f (one_by_one (all addNode inc ++ (all addLearner lrn ++ all addLearner stg))) (all addNode inc ++ (all addLearner lrn ++ all addLearner stg))
+        go : (b : Bool) → is_empty inc ≡ b → Ran n T f (one_by_one (all add_node inc ++ (all add_learner lrn ++ all add_learner stg))) (all add_node inc ++ (all add_learner lrn ++ all add_learner stg))
         go true e = none_ran (k e)
         go false e = some_ran (first inc e)
 
     single-back : Same s (run n f (one_by_one (wanted lists)))
     single-back =
         back-of single_ran.end single_ran.ordered (run n f (one_by_one (wanted lists))) single_ran.result
-        (λ y z. ap (λ (b : Box). b.standing) (single_ran.boxes y ∙ wanted-box r y z (box_of f y) ∙ ap (λ (b : Box). on (memb y stg) r addLearner (on (memb y lrn) r addLearner (on (memb y inc) r addNode b))) (fresh-box m y)) ∙ alone_spot y)
+        (λ y z. ap (λ (b : Box). b.standing) (single_ran.boxes y ∙ wanted-box r y z (box_of f y) ∙ ap (λ (b : Box). on (memb y stg) r add_learner (on (memb y lrn) r add_learner (on (memb y inc) r add_node b))) (fresh-box m y)) ∙ alone_spot y)
         (quiet single_ran.end single_ran.ordered single_ran.single ∙ sym (quiet s o j))
       where
         quiet : (t : State) → Ordered t → joint t.conf ≡ false → t.conf.auto_leave ≡ false
@@ -302,7 +302,7 @@ module _ (s : State) (o : Ordered s) (k : Reached s) (m n : ℕ) where
 
   module _ (j : joint s.conf ≡ true) where
     abbrev cs : List Change
-    cs = all removeNode out ++ wanted lists
+    cs = all remove_node out ++ wanted lists
 
     abbrev u : State
     u = (added out p.outgoing-tracked).end
@@ -339,8 +339,8 @@ module _ (s : State) (o : Ordered s) (k : Reached s) (m n : ℕ) where
     unfolding lists enrol
     fit =
         changes_fit r' u.peers up' T T↑ o.few cs (start (entering u.conf)) (fine_enter u (ordered-checked u ou) r' ju) (added out p.outgoing-tracked).within
-        (inside_all removeNode out p.outgoing-tracked (all addNode inc ++ (all addLearner lrn ++ all addLearner stg))
-        (inside_all addNode inc p.incoming-tracked (all addLearner lrn ++ all addLearner stg) (inside_all addLearner lrn p.learner-tracked (all addLearner stg) (inside_only addLearner stg p.staged-tracked))))
+        (inside_all remove_node out p.outgoing-tracked (all add_node inc ++ (all add_learner lrn ++ all add_learner stg))
+        (inside_all add_node inc p.incoming-tracked (all add_learner lrn ++ all add_learner stg) (inside_all add_learner lrn p.learner-tracked (all add_learner stg) (inside_only add_learner stg p.staged-tracked))))
 
     abbrev w : Work
     w = fit.0
@@ -348,11 +348,11 @@ module _ (s : State) (o : Ordered s) (k : Reached s) (m n : ℕ) where
     a : After r' u.peers up' cs (start (entering u.conf)) w
     a = changes-done r' u.peers up' cs (start (entering u.conf)) fit.0 fit.1 (fine_enter u (ordered-checked u ou) r' ju)
 
-    joint-box : (y : ℕ) → eqb y 0 ≡ false → changes_box r' y cs (enter_box (on (memb y out) r addNode nothing)) ≡ jointly r r' (spot s.conf s.peers y)
+    joint-box : (y : ℕ) → eqb y 0 ≡ false → changes_box r' y cs (enter_box (on (memb y out) r add_node nothing)) ≡ jointly r r' (spot s.conf s.peers y)
     joint-box y z =
-        changes_append r' y (all removeNode out) (wanted lists) (enter_box (on (memb y out) r addNode nothing))
-        ∙ wanted-box r' y z (changes_box r' y (all removeNode out) (enter_box (on (memb y out) r addNode nothing)))
-        ∙ ap (λ (b : Box). on (memb y stg) r' addLearner (on (memb y lrn) r' addLearner (on (memb y inc) r' addNode b))) (changes-all r' y removeNode out z (enter_box (on (memb y out) r addNode nothing)))
+        changes_append r' y (all remove_node out) (wanted lists) (enter_box (on (memb y out) r add_node nothing))
+        ∙ wanted-box r' y z (changes_box r' y (all remove_node out) (enter_box (on (memb y out) r add_node nothing)))
+        ∙ ap (λ (b : Box). on (memb y stg) r' add_learner (on (memb y lrn) r' add_learner (on (memb y inc) r' add_node b))) (changes-all r' y remove_node out z (enter_box (on (memb y out) r add_node nothing)))
 
     w_box : (y : ℕ) → eqb y 0 ≡ false → (box_at w.conf (now r' u.peers up' w) y).standing ≡ (box_of s y).standing
     unfolding enrol
@@ -395,17 +395,17 @@ module _ (s : State) (o : Ordered s) (k : Reached s) (m n : ℕ) where
     unfolding ask
     d = asked u ou r' (enter_step s.conf.auto_leave cs) total (with_auto s.conf.auto_leave w.conf) w.log accepts
 
-    ends : run n f (one_by_one (all addNode out) ++ (enter_step s.conf.auto_leave cs ∷ [])) ≡ record { verdict = ok; state = applied u (with_auto s.conf.auto_leave w.conf) w.log n }
+    ends : run n f (one_by_one (all add_node out) ++ (enter_step s.conf.auto_leave cs ∷ [])) ≡ record { verdict = ok; state = applied u (with_auto s.conf.auto_leave w.conf) w.log n }
     unfolding run ask
     ends =
-        run_append n T T↑ o.few (one_by_one (all addNode out)) (enter_step s.conf.auto_leave cs ∷ []) f
+        run_append n T T↑ o.few (one_by_one (all add_node out)) (enter_step s.conf.auto_leave cs ∷ []) f
         ∙ ap (λ (e : Outcome). go_on e (λ t. run n t (enter_step s.conf.auto_leave cs ∷ []))) (added out p.outgoing-tracked).result
         ∙ rw (accepts, apply-ok u ou n (enter_step s.conf.auto_leave cs) (with_auto s.conf.auto_leave w.conf) w.log d)
 
-    joint-back : Same s (run n f (one_by_one (all addNode out) ++ (enter_step s.conf.auto_leave cs ∷ [])))
+    joint-back : Same s (run n f (one_by_one (all add_node out) ++ (enter_step s.conf.auto_leave cs ∷ [])))
     joint-back =
         back-of (applied u (with_auto s.conf.auto_leave w.conf) w.log n) (apply-ordered u ou n (enter_step s.conf.auto_leave cs) (with_auto s.conf.auto_leave w.conf) w.log d)
-        (run n f (one_by_one (all addNode out) ++ (enter_step s.conf.auto_leave cs ∷ []))) ends w_box refl
+        (run n f (one_by_one (all add_node out) ++ (enter_step s.conf.auto_leave cs ∷ []))) ends w_box refl
 
   -- ** Either
 
@@ -428,7 +428,7 @@ module _ (s : State) (o : Ordered s) (k : Reached s) (m n : ℕ) where
   runs = go (is_empty out) refl
     where
       go : (b : Bool) → is_empty out ≡ b
-          → Same s (run n f (cond b (one_by_one (wanted lists)) (one_by_one (all addNode out) ++ (enter_step s.conf.auto_leave (all removeNode out ++ wanted lists) ∷ []))))
+          → Same s (run n f (cond b (one_by_one (wanted lists)) (one_by_one (all add_node out) ++ (enter_step s.conf.auto_leave (all remove_node out ++ wanted lists) ∷ []))))
       go true e = single-back (rw e)
       go false e = joint-back (rw e)
 

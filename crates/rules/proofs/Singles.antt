@@ -10,7 +10,7 @@ use lib.ListN.{length}
 use Rattle.progress.specs.Record.{fresh_record}
 use Rattle.progress.specs.declared.Progress.{Progress}
 use Rattle.rules.specs.Ids.{ascending, is_empty, memb}
-use Rattle.rules.specs.State.{Change, Conf, Kind, Peer, State, addLearner, addNode, ids}
+use Rattle.rules.specs.State.{Change, Conf, Kind, Peer, State, add_learner, add_node, ids}
 use Rattle.rules.specs.Answers.{Verdict, accepted, fault, ok}
 use Rattle.rules.specs.Check.{joint}
 use Rattle.rules.specs.Table.{I, IO, L, O, OS, Places, Standing, idle, none, places_of, table}
@@ -54,7 +54,7 @@ module _ (r : Progress) (ps : List Peer) (up : ascending (ids ps) ≡ true) (c :
   pub few_differ : leb 2 (difference v.conf.incoming w.conf.incoming) ≡ false
   few_differ = near c.id v.conf.incoming w.conf.incoming a.fine.sound.incoming↑ f.sound.incoming↑ (λ y e. incoming-after y ∙ rw e)
 
-voter_row_lem : (st : Standing) → (places_of (table st addNode).0).incoming ≡ true
+voter_row_lem : (st : Standing) → (places_of (table st add_node).0).incoming ≡ true
 unfolding table
 voter_row_lem none = refl
 voter_row_lem idle = refl
@@ -64,7 +64,7 @@ voter_row_lem O = refl
 voter_row_lem IO = refl
 voter_row_lem OS = refl
 
-learner-row : (st : Standing) → (places_of (table st addLearner).0).incoming ≡ false
+learner-row : (st : Standing) → (places_of (table st add_learner).0).incoming ≡ false
 unfolding table
 learner-row none = refl
 learner-row idle = refl
@@ -130,16 +130,16 @@ module _ (n : ℕ) (T : List ℕ) (T↑ : ascending T ≡ true) (T64 : length T 
         d : Stepped u r (simple_step (c ∷ [])) v.conf v.log
         d = asked u o r (simple_step (c ∷ [])) (omega arith) v.conf v.log acc
 
-    voter_step : (x : ℕ) → memb x T ≡ true → eqb x 0 ≡ false → Ran n T u (simple_step (record { kind = addNode; id = x } ∷ []) ∷ []) (record { kind = addNode; id = x } ∷ [])
+    voter_step : (x : ℕ) → memb x T ≡ true → eqb x 0 ≡ false → Ran n T u (simple_step (record { kind = add_node; id = x } ∷ []) ∷ []) (record { kind = add_node; id = x } ∷ [])
     voter_step x m z =
-        one-step (record { kind = addNode; id = x }) m z (λ v a. memb-some x v.conf.incoming
-        (incoming-after r u.peers up (record { kind = addNode; id = x }) (start u.conf) v (fine_start u oc r j) a z x ∙ rw (eq-eqb x x refl) (voter_row_lem (box_at u.conf (enrol r [] u.peers) x).standing)))
+        one-step (record { kind = add_node; id = x }) m z (λ v a. memb-some x v.conf.incoming
+        (incoming-after r u.peers up (record { kind = add_node; id = x }) (start u.conf) v (fine_start u oc r j) a z x ∙ rw (eq-eqb x x refl) (voter_row_lem (box_at u.conf (enrol r [] u.peers) x).standing)))
 
     learner-step : (x q : ℕ) → memb x T ≡ true → eqb x 0 ≡ false → memb q u.conf.incoming ≡ true → eqb x q ≡ false
-        → Ran n T u (simple_step (record { kind = addLearner; id = x } ∷ []) ∷ []) (record { kind = addLearner; id = x } ∷ [])
+        → Ran n T u (simple_step (record { kind = add_learner; id = x } ∷ []) ∷ []) (record { kind = add_learner; id = x } ∷ [])
     learner-step x q m z h e =
-        one-step (record { kind = addLearner; id = x }) m z (λ v a. memb-some q v.conf.incoming
-        (incoming-after r u.peers up (record { kind = addLearner; id = x }) (start u.conf) v (fine_start u oc r j) a z q ∙ rw e h))
+        one-step (record { kind = add_learner; id = x }) m z (λ v a. memb-some q v.conf.incoming
+        (incoming-after r u.peers up (record { kind = add_learner; id = x }) (start u.conf) v (fine_start u oc r j) a z q ∙ rw e h))
 
   pub ran_none : (u : State) → Ordered u → joint u.conf ≡ false → ((y : ℕ) → memb y (ids u.peers) ≡ true → memb y T ≡ true) → Ran n T u [] []
   unfolding run changes_box
@@ -176,12 +176,12 @@ module _ (n : ℕ) (T : List ℕ) (T↑ : ascending T ≡ true) (T64 : length T 
   good_tail x xs g y m = g y (or-true (eqb x y) (memb y xs) m)
 
   pub voters-run : (xs : List ℕ) → Good xs → (u : State) → Ordered u → joint u.conf ≡ false → ((y : ℕ) → memb y (ids u.peers) ≡ true → memb y T ≡ true)
-      → Ran n T u (one_by_one (all addNode xs)) (all addNode xs)
+      → Ran n T u (one_by_one (all add_node xs)) (all add_node xs)
   unfolding one_by_one all
   voters-run [] g u o j i = ran_none u o j i
   voters-run (x ∷ xs) g u o j i =
-      let p : Ran n T u (simple_step (record { kind = addNode; id = x } ∷ []) ∷ []) (record { kind = addNode; id = x } ∷ []) = voter_step u o j i x (g x (memb_head x xs)).0 (g x (memb_head x xs)).1 in
-      ran_more u (simple_step (record { kind = addNode; id = x } ∷ []) ∷ []) (one_by_one (all addNode xs)) (record { kind = addNode; id = x } ∷ []) (all addNode xs) p
+      let p : Ran n T u (simple_step (record { kind = add_node; id = x } ∷ []) ∷ []) (record { kind = add_node; id = x } ∷ []) = voter_step u o j i x (g x (memb_head x xs)).0 (g x (memb_head x xs)).1 in
+      ran_more u (simple_step (record { kind = add_node; id = x } ∷ []) ∷ []) (one_by_one (all add_node xs)) (record { kind = add_node; id = x } ∷ []) (all add_node xs) p
       (voters-run xs (good_tail x xs g) p.end p.ordered p.single p.within)
 
   -- q is a voter all the while
@@ -195,11 +195,11 @@ module _ (n : ℕ) (T : List ℕ) (T↑ : ascending T ≡ true) (T64 : length T 
       ∙ m
 
   pub learners-run : (q : ℕ) (xs : List ℕ) → Good xs → memb q xs ≡ false → (u : State) → Ordered u → joint u.conf ≡ false → ((y : ℕ) → memb y (ids u.peers) ≡ true → memb y T ≡ true)
-      → memb q u.conf.incoming ≡ true → Ran n T u (one_by_one (all addLearner xs)) (all addLearner xs)
+      → memb q u.conf.incoming ≡ true → Ran n T u (one_by_one (all add_learner xs)) (all add_learner xs)
   unfolding one_by_one all memb
   learners-run q [] g f u o j i m = ran_none u o j i
   learners-run q (x ∷ xs) g f u o j i m =
       let e : eqb x q ≡ false = or_left (eqb x q) (memb q xs) f in
-      let p : Ran n T u (simple_step (record { kind = addLearner; id = x } ∷ []) ∷ []) (record { kind = addLearner; id = x } ∷ []) = learner-step u o j i x q (g x (memb_head x xs)).0 (g x (memb_head x xs)).1 m e in
-      ran_more u (simple_step (record { kind = addLearner; id = x } ∷ []) ∷ []) (one_by_one (all addLearner xs)) (record { kind = addLearner; id = x } ∷ []) (all addLearner xs) p
-      (learners-run q xs (good_tail x xs g) (or_right (eqb x q) (memb q xs) f) p.end p.ordered p.single p.within (stays_voter u x q addLearner o e m p))
+      let p : Ran n T u (simple_step (record { kind = add_learner; id = x } ∷ []) ∷ []) (record { kind = add_learner; id = x } ∷ []) = learner-step u o j i x q (g x (memb_head x xs)).0 (g x (memb_head x xs)).1 m e in
+      ran_more u (simple_step (record { kind = add_learner; id = x } ∷ []) ∷ []) (one_by_one (all add_learner xs)) (record { kind = add_learner; id = x } ∷ []) (all add_learner xs) p
+      (learners-run q xs (good_tail x xs g) (or_right (eqb x q) (memb q xs) f) p.end p.ordered p.single p.within (stays_voter u x q add_learner o e m p))

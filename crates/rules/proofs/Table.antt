@@ -7,7 +7,7 @@ use lib.Dec.{eqb, leb}
 use lib.ListN.{length}
 use Rattle.progress.specs.declared.Progress.{Progress}
 use Rattle.rules.specs.Ids.{ascending, insert_id, memb, remove_id}
-use Rattle.rules.specs.State.{Change, Conf, Entry, Kind, Peer, addLearner, addNode, ids, removeNode}
+use Rattle.rules.specs.State.{Change, Conf, Entry, Kind, Peer, add_learner, add_node, ids, remove_node}
 use Rattle.rules.specs.Table.{Effect, I, IO, L, O, OS, Places, Standing, adds, idle, none, place, places_in, places_of, put, removes, stays, table}
 use Rattle.rules.specs.Changes.{Work, change, done, full, logged, pending, pending_tracked}
 use Rattle.rules.specs.Rust.{by_kind, rust_change, tracks, work}
@@ -34,27 +34,27 @@ module _ (x : ℕ) (t : Bool) (w : Work) (i : ascending w.conf.incoming ≡ true
   -- at each of the standings, one change is the set operations of its kind
   pub table_agrees : (st : Standing) (k : Kind) → places_in t w.conf x ≡ places_of st → by_kind k t x w ≡ moved (table st k)
   unfolding table
-  table_agrees none addNode q = rw (ap (λ (p : Places). p.tracked) q, remove_none x w.conf.learners (ap (λ (p : Places). p.learner) q), remove_none x w.conf.staged (ap (λ (p : Places). p.staged) q))
-  table_agrees none addLearner q = rw (ap (λ (p : Places). p.tracked) q, remove_none x w.conf.incoming (ap (λ (p : Places). p.incoming) q), remove_none x w.conf.staged (ap (λ (p : Places). p.staged) q))
-  table_agrees none removeNode q = rw (ap (λ (p : Places). p.tracked) q, append-nil, remove_none x w.conf.incoming (ap (λ (p : Places). p.incoming) q), remove_none x w.conf.learners (ap (λ (p : Places). p.learner) q), remove_none x w.conf.staged (ap (λ (p : Places). p.staged) q))
-  table_agrees idle addNode q = rw (ap (λ (p : Places). p.tracked) q, append-nil)
-  table_agrees idle addLearner q = rw (ap (λ (p : Places). p.tracked) q, ap (λ (p : Places). p.learner) q, ap (λ (p : Places). p.outgoing) q, append-nil, insert_remove x w.conf.learners l)
-  table_agrees idle removeNode q = rw (ap (λ (p : Places). p.tracked) q, ap (λ (p : Places). p.outgoing) q)
-  table_agrees I addNode q = rw (ap (λ (p : Places). p.tracked) q, append-nil)
-  table_agrees I addLearner q = rw (ap (λ (p : Places). p.tracked) q, ap (λ (p : Places). p.learner) q, ap (λ (p : Places). p.outgoing) q, append-nil, insert_remove x w.conf.learners l)
-  table_agrees I removeNode q = rw (ap (λ (p : Places). p.tracked) q, ap (λ (p : Places). p.outgoing) q)
-  table_agrees L addNode q = rw (ap (λ (p : Places). p.tracked) q, append-nil)
-  table_agrees L addLearner q = rw (ap (λ (p : Places). p.tracked) q, ap (λ (p : Places). p.learner) q, append-nil, remove_none x w.conf.incoming (ap (λ (p : Places). p.incoming) q), insert_same x w.conf.learners l (ap (λ (p : Places). p.learner) q), remove_none x w.conf.staged (ap (λ (p : Places). p.staged) q))
-  table_agrees L removeNode q = rw (ap (λ (p : Places). p.tracked) q, ap (λ (p : Places). p.outgoing) q)
-  table_agrees O addNode q = rw (ap (λ (p : Places). p.tracked) q, append-nil)
-  table_agrees O addLearner q = rw (ap (λ (p : Places). p.tracked) q, ap (λ (p : Places). p.learner) q, ap (λ (p : Places). p.outgoing) q, append-nil, insert_remove x w.conf.staged g)
-  table_agrees O removeNode q = rw (ap (λ (p : Places). p.tracked) q, ap (λ (p : Places). p.outgoing) q, append-nil)
-  table_agrees IO addNode q = rw (ap (λ (p : Places). p.tracked) q, append-nil)
-  table_agrees IO addLearner q = rw (ap (λ (p : Places). p.tracked) q, ap (λ (p : Places). p.learner) q, ap (λ (p : Places). p.outgoing) q, append-nil, insert_remove x w.conf.staged g)
-  table_agrees IO removeNode q = rw (ap (λ (p : Places). p.tracked) q, ap (λ (p : Places). p.outgoing) q, append-nil)
-  table_agrees OS addNode q = rw (ap (λ (p : Places). p.tracked) q, append-nil)
-  table_agrees OS addLearner q = rw (ap (λ (p : Places). p.tracked) q, ap (λ (p : Places). p.learner) q, ap (λ (p : Places). p.outgoing) q, append-nil, insert_remove x w.conf.staged g)
-  table_agrees OS removeNode q = rw (ap (λ (p : Places). p.tracked) q, ap (λ (p : Places). p.outgoing) q, append-nil)
+  table_agrees none add_node q = rw (ap (λ (p : Places). p.tracked) q, remove_none x w.conf.learners (ap (λ (p : Places). p.learner) q), remove_none x w.conf.staged (ap (λ (p : Places). p.staged) q))
+  table_agrees none add_learner q = rw (ap (λ (p : Places). p.tracked) q, remove_none x w.conf.incoming (ap (λ (p : Places). p.incoming) q), remove_none x w.conf.staged (ap (λ (p : Places). p.staged) q))
+  table_agrees none remove_node q = rw (ap (λ (p : Places). p.tracked) q, append-nil, remove_none x w.conf.incoming (ap (λ (p : Places). p.incoming) q), remove_none x w.conf.learners (ap (λ (p : Places). p.learner) q), remove_none x w.conf.staged (ap (λ (p : Places). p.staged) q))
+  table_agrees idle add_node q = rw (ap (λ (p : Places). p.tracked) q, append-nil)
+  table_agrees idle add_learner q = rw (ap (λ (p : Places). p.tracked) q, ap (λ (p : Places). p.learner) q, ap (λ (p : Places). p.outgoing) q, append-nil, insert_remove x w.conf.learners l)
+  table_agrees idle remove_node q = rw (ap (λ (p : Places). p.tracked) q, ap (λ (p : Places). p.outgoing) q)
+  table_agrees I add_node q = rw (ap (λ (p : Places). p.tracked) q, append-nil)
+  table_agrees I add_learner q = rw (ap (λ (p : Places). p.tracked) q, ap (λ (p : Places). p.learner) q, ap (λ (p : Places). p.outgoing) q, append-nil, insert_remove x w.conf.learners l)
+  table_agrees I remove_node q = rw (ap (λ (p : Places). p.tracked) q, ap (λ (p : Places). p.outgoing) q)
+  table_agrees L add_node q = rw (ap (λ (p : Places). p.tracked) q, append-nil)
+  table_agrees L add_learner q = rw (ap (λ (p : Places). p.tracked) q, ap (λ (p : Places). p.learner) q, append-nil, remove_none x w.conf.incoming (ap (λ (p : Places). p.incoming) q), insert_same x w.conf.learners l (ap (λ (p : Places). p.learner) q), remove_none x w.conf.staged (ap (λ (p : Places). p.staged) q))
+  table_agrees L remove_node q = rw (ap (λ (p : Places). p.tracked) q, ap (λ (p : Places). p.outgoing) q)
+  table_agrees O add_node q = rw (ap (λ (p : Places). p.tracked) q, append-nil)
+  table_agrees O add_learner q = rw (ap (λ (p : Places). p.tracked) q, ap (λ (p : Places). p.learner) q, ap (λ (p : Places). p.outgoing) q, append-nil, insert_remove x w.conf.staged g)
+  table_agrees O remove_node q = rw (ap (λ (p : Places). p.tracked) q, ap (λ (p : Places). p.outgoing) q, append-nil)
+  table_agrees IO add_node q = rw (ap (λ (p : Places). p.tracked) q, append-nil)
+  table_agrees IO add_learner q = rw (ap (λ (p : Places). p.tracked) q, ap (λ (p : Places). p.learner) q, ap (λ (p : Places). p.outgoing) q, append-nil, insert_remove x w.conf.staged g)
+  table_agrees IO remove_node q = rw (ap (λ (p : Places). p.tracked) q, ap (λ (p : Places). p.outgoing) q, append-nil)
+  table_agrees OS add_node q = rw (ap (λ (p : Places). p.tracked) q, append-nil)
+  table_agrees OS add_learner q = rw (ap (λ (p : Places). p.tracked) q, ap (λ (p : Places). p.learner) q, ap (λ (p : Places). p.outgoing) q, append-nil, insert_remove x w.conf.staged g)
+  table_agrees OS remove_node q = rw (ap (λ (p : Places). p.tracked) q, ap (λ (p : Places). p.outgoing) q, append-nil)
 
 -- ** 16
 
@@ -66,27 +66,27 @@ is_adds removes = false
 -- an Add is logged where an untracked id is to be tracked
 adds_where : (st : Standing) (k : Kind) → is_adds (table st k).1 ≡ not (places_of st).tracked && tracks k
 unfolding table
-adds_where none addNode = refl
-adds_where none addLearner = refl
-adds_where none removeNode = refl
-adds_where idle addNode = refl
-adds_where idle addLearner = refl
-adds_where idle removeNode = refl
-adds_where I addNode = refl
-adds_where I addLearner = refl
-adds_where I removeNode = refl
-adds_where L addNode = refl
-adds_where L addLearner = refl
-adds_where L removeNode = refl
-adds_where O addNode = refl
-adds_where O addLearner = refl
-adds_where O removeNode = refl
-adds_where IO addNode = refl
-adds_where IO addLearner = refl
-adds_where IO removeNode = refl
-adds_where OS addNode = refl
-adds_where OS addLearner = refl
-adds_where OS removeNode = refl
+adds_where none add_node = refl
+adds_where none add_learner = refl
+adds_where none remove_node = refl
+adds_where idle add_node = refl
+adds_where idle add_learner = refl
+adds_where idle remove_node = refl
+adds_where I add_node = refl
+adds_where I add_learner = refl
+adds_where I remove_node = refl
+adds_where L add_node = refl
+adds_where L add_learner = refl
+adds_where L remove_node = refl
+adds_where O add_node = refl
+adds_where O add_learner = refl
+adds_where O remove_node = refl
+adds_where IO add_node = refl
+adds_where IO add_learner = refl
+adds_where IO remove_node = refl
+adds_where OS add_node = refl
+adds_where OS add_learner = refl
+adds_where OS remove_node = refl
 
 logged-is : (e : Effect) (base : List ℕ) (x : ℕ) (c : Conf) (log : List Entry)
     → logged e base x c log ≡ cond (is_adds e && leb 64 (length (pending log base))) (full x) (done (work c (log ++ entries e x)))

@@ -9,7 +9,7 @@ use lib.Dec.{eqb, ltb, leb}
 use Rattle.progress.specs.Record.{fresh_record}
 use Rattle.progress.specs.declared.Progress.{Progress}
 use Rattle.rules.specs.Ids.{above, ascending, is_empty, memb, remove_id}
-use Rattle.rules.specs.State.{Change, Conf, State, formed, ids, remove, removeNode}
+use Rattle.rules.specs.State.{Change, Conf, State, formed, ids, remove, remove_node}
 use Rattle.rules.specs.Answers.{Verdict, ◌▸◌, ◌⇒◌, each, fault, ok, refuse}
 use Rattle.rules.specs.Check.{check, in_order, is_tracked, joint}
 use Rattle.rules.specs.Table.{I, IO, L, O, OS, Standing, idle, none, place, places_in, places_of, standing_in, table}
@@ -54,7 +54,7 @@ another_than_0 (y ∷ ys) m = rw (or_left (eqb y 0) (memb 0 ys) m)
 
 -- ** The removal of one id from a state that passes the check and is not joint
 
-removed-row : (st : Standing) → (places_of (table st removeNode).0).incoming ≡ false
+removed-row : (st : Standing) → (places_of (table st remove_node).0).incoming ≡ false
 unfolding table
 removed-row none = refl
 removed-row idle = refl
@@ -66,7 +66,7 @@ removed-row OS = refl
 
 module _ (s : State) (o : Checked s) (x : ℕ) (j : joint s.conf ≡ false) where
   abbrev c : Change
-  c = record { kind = removeNode; id = x }
+  c = record { kind = remove_node; id = x }
 
   abbrev r : Progress
   r = fresh_record 0 0
@@ -101,7 +101,7 @@ module _ (s : State) (o : Checked s) (x : ℕ) (j : joint s.conf ≡ false) wher
       out st = place x st s.conf
 
       go : (b : Bool) (st : Standing)
-          → (w : Work) × (and_then (cond b (done (start s.conf)) (logged (table st removeNode).1 (ids s.peers) x (place x (table st removeNode).0 s.conf) [])) (λ v. done v) ≡ done w)
+          → (w : Work) × (and_then (cond b (done (start s.conf)) (logged (table st remove_node).1 (ids s.peers) x (place x (table st remove_node).0 s.conf) [])) (λ v. done v) ≡ done w)
       go true st = (start s.conf, refl)
       go false none = (record { conf = out none; log = [] }, refl)
       go false idle = (record { conf = out none; log = remove x ∷ [] }, refl)
@@ -123,7 +123,7 @@ module _ (s : State) (o : Checked s) (x : ℕ) (j : joint s.conf ≡ false) wher
       same : (y : ℕ) → memb y w.conf.incoming ≡ memb y (remove_id x before)
       same y = incoming-after r s.peers up c (start s.conf) w (fine_start s o r j) a z y ∙ go (eqb x y) ∙ sym (memb_remove x y before o.sound.incoming↑)
         where
-          go : (e : Bool) → cond e (places_of (table (box_at s.conf (now r s.peers up (start s.conf)) y).standing removeNode).0).incoming (memb y before) ≡ not e && memb y before
+          go : (e : Bool) → cond e (places_of (table (box_at s.conf (now r s.peers up (start s.conf)) y).standing remove_node).0).incoming (memb y before) ≡ not e && memb y before
           go true = removed-row (box_at s.conf (now r s.peers up (start s.conf)) y).standing
           go false = refl
 
@@ -151,7 +151,7 @@ unfolding unplug straight simple simple_of readable list_of each
 unplug-straight s x = go (formed s) refl
   where
     c : Change
-    c = record { kind = removeNode; id = x }
+    c = record { kind = remove_node; id = x }
 
     rest : Verdict
     rest = refuse (not (voter_left x s.conf.incoming)) 17 0

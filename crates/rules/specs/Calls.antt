@@ -2,7 +2,7 @@
 -- then 4, 5 or 6; the check; 15; the changes, stopping at the first 16; 17; 18; the check again." Assumes nothing.
 use Rattle.std.specs.Prelude.{ℕ, ◌+◌, Bool, false, ◌||◌, not, cond, List, [], ◌∷◌, length, eqb, ltb, leb}
 use Rattle.rules.specs.Ids.{insert_all, is_empty, minus}
-use Rattle.rules.specs.State.{Change, Conf, Entry, Kind, State, addLearner, addNode, formed, ids, remove, removeNode}
+use Rattle.rules.specs.State.{Change, Conf, Entry, Kind, State, add_learner, add_node, formed, ids, remove, remove_node}
 use Rattle.rules.specs.Answers.{Answer, Verdict, ◌⇒◌, ◌▸◌, accepted, each, refuse, refused}
 use Rattle.rules.specs.Check.{check, is_tracked, joint}
 use Rattle.rules.specs.Changes.{Done, Work, changes, done, full, pending_tracked}
@@ -11,7 +11,7 @@ use Rattle.rules.specs.Changes.{Done, Work, changes, done, full, pending_tracked
 
 -- "0 AddNode, 1 RemoveNode, 2 AddLearnerNode"
 abbrev pub kind_of : ℕ → Kind
-kind_of k = cond (eqb k 0) addNode (cond (eqb k 1) removeNode addLearner)
+kind_of k = cond (eqb k 0) add_node (cond (eqb k 1) remove_node add_learner)
 
 -- the list of changes that ids and kinds give
 unfoldable pub list_of : List ℕ → List ℕ → List Change

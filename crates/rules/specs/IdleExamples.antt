@@ -2,7 +2,7 @@
 -- Assumes nothing.
 use Rattle.std.specs.Prelude.{◌≡◌, refl, true, false, [], ◌∷◌}
 use Rattle.rules.specs.Ids.{memb, above, ascending, insert_id, insert_all, remove_id, minus}
-use Rattle.rules.specs.State.{State, addLearner, conf_formed, formed, ids, removeNode}
+use Rattle.rules.specs.State.{State, add_learner, conf_formed, formed, ids, remove_node}
 use Rattle.rules.specs.Answers.{each}
 use Rattle.rules.specs.Check.{check}
 use Rattle.rules.specs.Table.{OS, idle, standing_in, table}
@@ -21,9 +21,9 @@ s3 = of (olds (1 ∷ 2 ∷ 3 ∷ [])) (conf (1 ∷ []) [] (2 ∷ []) [])
 
 pub rows :
     -- takes the id out of staged and puts it back, as the Rust does, and counts that as a change
-    (idle_row OS addLearner ≡ true)
+    (idle_row OS add_learner ≡ true)
     -- asks whether any set changed: of a box that is tracked only none does, but it is logged
-    × (idle_row idle removeNode ≡ false)
+    × (idle_row idle remove_node ≡ false)
 unfolding idle_row table
 rows = (refl, refl)
 

@@ -2,7 +2,7 @@
 -- Assumes nothing.
 use Rattle.std.specs.Prelude.{ℕ, Bool, ◌&&◌, not, cond, List, [], ◌∷◌, ◌++◌, length, leb}
 use Rattle.rules.specs.Ids.{is_empty}
-use Rattle.rules.specs.State.{Change, ConfState, Kind, State, addLearner, addNode, formed, removeNode}
+use Rattle.rules.specs.State.{Change, ConfState, Kind, State, add_learner, add_node, formed, remove_node}
 use Rattle.rules.specs.Answers.{Answer, Outcome, Verdict, ◌▸◌, accepted, fault, ok, refuse, refused, settle}
 use Rattle.rules.specs.Calls.{enter_of, leave_of, simple_of}
 use Rattle.rules.specs.Apply.{apply_conf}
@@ -46,7 +46,7 @@ one_by_one (c ∷ cs) = simple_step (c ∷ []) ∷ one_by_one cs
 
 -- "add each voter, add-learner each learner, then each staged"
 abbrev pub wanted : ConfState → List Change
-wanted cs = all addNode cs.voters ++ (all addLearner cs.learners ++ all addLearner cs.learners_next)
+wanted cs = all add_node cs.voters ++ (all add_learner cs.learners ++ all add_learner cs.learners_next)
 
 -- "No outgoing: each voter, learner and staged id in list order as a `simple` of its own (AddNode for voters, AddLearnerNode for the
 -- others); the flag is ignored. Otherwise one `simple` AddNode per outgoing id, then one `enter_joint` with: remove each outgoing, add
@@ -55,7 +55,7 @@ unfoldable pub restore_steps : ConfState → List Step
 restore_steps cs =
     cond (is_empty cs.voters_outgoing)
     (one_by_one (wanted cs))
-    (one_by_one (all addNode cs.voters_outgoing) ++ (enter_step cs.auto_leave (all removeNode cs.voters_outgoing ++ wanted cs) ∷ []))
+    (one_by_one (all add_node cs.voters_outgoing) ++ (enter_step cs.auto_leave (all remove_node cs.voters_outgoing ++ wanted cs) ∷ []))
 
 abbrev pub short : List ℕ → Bool
 short xs = leb (length xs) 64

@@ -1,7 +1,7 @@
 -- The form of the checked examples: a state, a call, and what document 01 says of it. Assumes nothing.
 use Rattle.std.specs.Prelude.{ℕ, false, List, [], ◌∷◌}
 use Rattle.progress.specs.Record.{fresh_record}
-use Rattle.rules.specs.State.{Change, Conf, ConfState, Entry, Kind, Peer, State, addLearner, addNode, removeNode}
+use Rattle.rules.specs.State.{Change, Conf, ConfState, Entry, Kind, Peer, State, add_learner, add_node, remove_node}
 use Rattle.rules.specs.Answers.{Verdict, Answer, accepted, refused, Outcome}
 use Rattle.rules.specs.Calls.{simple, enter_joint, leave_joint}
 use Rattle.rules.specs.Restore.{Step, enter_step, leave_step, simple_step}
@@ -47,9 +47,9 @@ ids_in [] = []
 ids_in (c ∷ cs) = c.id ∷ ids_in cs
 
 abbrev number_of : Kind → ℕ
-number_of addNode = 0
-number_of removeNode = 1
-number_of addLearner = 2
+number_of add_node = 0
+number_of remove_node = 1
+number_of add_learner = 2
 
 abbrev kinds_in : List Change → List ℕ
 kinds_in [] = []

@@ -1,7 +1,7 @@
 -- `make_voter`, `make_learner`, `remove` and the list of `apply` of changer.rs, line by line, on sets and the pending log. Assumes nothing.
 use Rattle.std.specs.Prelude.{ℕ, Bool, true, false, ◌&&◌, not, cond, List, [], ◌∷◌, ◌++◌, eqb, leb, length}
 use Rattle.rules.specs.Ids.{insert_id, memb, remove_id}
-use Rattle.rules.specs.State.{Change, Conf, Entry, Kind, add, addLearner, addNode, remove, removeNode}
+use Rattle.rules.specs.State.{Change, Conf, Entry, Kind, add, add_learner, add_node, remove, remove_node}
 use Rattle.rules.specs.Changes.{Done, Work, and_then, done, full, pending, pending_tracked}
 
 abbrev pub on_incoming : (List ℕ → List ℕ) → Conf → Conf
@@ -46,17 +46,17 @@ remove_op tracked x w =
     (work (on_staged (remove_id x) (on_learners (remove_id x) (on_incoming (remove_id x) w.conf))) (cond (memb x w.conf.outgoing) w.log (w.log ++ (remove x ∷ []))))
 
 abbrev pub by_kind : Kind → Bool → ℕ → Work → Work
-by_kind addNode = make_voter
-by_kind addLearner = make_learner
-by_kind removeNode = remove_op
+by_kind add_node = make_voter
+by_kind add_learner = make_learner
+by_kind remove_node = remove_op
 
 -- ** A list
 
 -- a change of this kind tracks an id that is not: `make_voter` and `make_learner` do, by `init_progress`, and `remove` does not
 abbrev pub tracks : Kind → Bool
-tracks addNode = true
-tracks addLearner = true
-tracks removeNode = false
+tracks add_node = true
+tracks add_learner = true
+tracks remove_node = false
 
 -- if cc.node_id == 0 { continue; }
 -- match cc.get_change_type() { AddNode => make_voter(..), AddLearnerNode => make_learner(..), RemoveNode => remove(..) }

@@ -46,7 +46,7 @@ fresh m = record { conf = no_conf; peers = []; max_inflight = m }
 
 -- "A change list has at most 256 entries, given as ids and kinds of equal length: 0 AddNode, 1 RemoveNode, 2 AddLearnerNode."
 pub data Kind : Type 0 where
-  addNode addLearner removeNode : Kind
+  add_node add_learner remove_node : Kind
 
 pub record Change : Type 0 where
   pub kind : Kind

@@ -1,7 +1,7 @@
 -- The table of standings: document 01, "What one change does to one id". Assumes nothing.
 use Rattle.std.specs.Prelude.{ℕ, Bool, true, false, not, cond, List}
 use Rattle.rules.specs.Ids.{insert_id, memb, remove_id}
-use Rattle.rules.specs.State.{Conf, Kind, addLearner, addNode, removeNode}
+use Rattle.rules.specs.State.{Conf, Kind, add_learner, add_node, remove_node}
 
 -- "An id's standing: none (untracked), idle (tracked only), I, L, O, IO, OS for incoming, learner, outgoing, both voters, outgoing
 -- and staged. Example 14's id 2 is IOS; no change meets one, since 4 and 6 come first." Nor is a state with one in order (document 02, h).
@@ -13,9 +13,9 @@ pub data Effect : Type 0 where
   stays adds removes : Effect
 
 abbrev pub row : Standing × Effect → Standing × Effect → Standing × Effect → Kind → Standing × Effect
-row a l r addNode = a
-row a l r addLearner = l
-row a l r removeNode = r
+row a l r add_node = a
+row a l r add_learner = l
+row a l r remove_node = r
 
 -- "After the check, these rules stand as a table"
 unfoldable pub table : Standing → Kind → Standing × Effect
