@@ -33,15 +33,8 @@ fn say_log(rt: &impl Print, log: ChangeLog) -> io::Result<()> {
 }
 
 fn say_entries(rt: &impl Print, log: ChangeLog) -> io::Result<()> {
-    let n = log.count;
-    let mut i = 0;
-    while i < ChangeLog::CAPACITY {
-        if n <= i {
-            return Ok(());
-        }
-        let e = log.entries[i];
-        say_entry(rt, e)?;
-        i += 1;
+    for e in log.entries.iter().take(log.count) {
+        say_entry(rt, *e)?;
     }
     Ok(())
 }
@@ -59,17 +52,11 @@ fn say_entry(rt: &impl Print, e: MapChange) -> io::Result<()> {
 // The changes of a list: `enter remove 1, add 2, learner 3`.
 pub(crate) fn say_changes(rt: &impl Print, list: &Changes) -> io::Result<()> {
     say::words(rt, b"enter")?;
-    let n = list.len;
-    let mut i = 0;
-    while i < changes::MAX_CHANGES {
-        if n <= i {
-            return Ok(());
-        }
+    for i in 0..list.len.min(changes::MAX_CHANGES) {
         if i != 0 {
             say::words(rt, b",")?;
         }
         say_change(rt, list.ids[i], list.kinds[i])?;
-        i += 1;
     }
     Ok(())
 }

@@ -84,14 +84,8 @@ pub(crate) fn last_step(cs: ConfState) -> Changes {
 // The list with a change of this kind for each id more.
 fn append(list: Changes, more: IdList, kind: u8) -> Changes {
     let mut c = list;
-    let n = more.len;
-    let mut i = 0;
-    while i < IdList::CAPACITY {
-        if n <= i {
-            return c;
-        }
-        c = with_change(c, more.ids[i], kind);
-        i += 1;
+    for id in more.ids.iter().take(more.len) {
+        c = with_change(c, *id, kind);
     }
     c
 }
@@ -120,32 +114,20 @@ pub(crate) fn none() -> IdList {
 // The list of these ids, at most 64 of them.
 pub(crate) fn list(ids: &[u64]) -> IdList {
     let mut places = [0u64; IdList::CAPACITY];
-    let mut n = 0;
-    while n < ids.len() {
-        if IdList::CAPACITY <= n {
-            return IdList {
-                ids: places,
-                len: n,
-            };
-        }
-        places[n] = ids[n];
-        n += 1;
+    for (place, id) in places.iter_mut().zip(ids) {
+        *place = *id;
     }
     IdList {
         ids: places,
-        len: n,
+        len: ids.len().min(IdList::CAPACITY),
     }
 }
 
 // The list 1 to 63.
 pub(crate) fn one_to_63() -> IdList {
     let mut ids = [0u64; IdList::CAPACITY];
-    let mut n = 0;
-    let mut id = 1;
-    while n < 63 {
-        ids[n] = id;
-        n += 1;
-        id += 1;
+    for n in 0..63 {
+        ids[n] = n as u64 + 1;
     }
-    IdList { ids, len: n }
+    IdList { ids, len: 63 }
 }

@@ -2,6 +2,10 @@
 // those of crate listing.
 #![tactic(auto)]
 
+ghost use Rattle.std.specs.Prelude.{◌≤◌, length, take, IsTrue};
+ghost use Rattle.std.specs.Io.KnownBytes.{Appends};
+ghost use Rattle.listing.specs.Listing.{listing};
+
 use std::io::Write;
 
 // A block of lines. It is written out where it may have no room for a line more: no line is longer than 11,520 bytes (`line-size`, crates/listing/proofs).
@@ -9,8 +13,10 @@ const BLOCK: usize = 32768;
 
 const FULL: usize = BLOCK - 11520;
 
-// The lines of the records one after the other, as far as they can be written.
-fn list<W: Write, E: Write>(script: &[u8], out: &mut W, errors: &mut E) {
+// The lines of the records one after the other, as far as they can be written; whether all were.
+fn list<W: Write, E: Write>(script: &[u8], out: &mut W, errors: &mut E) -> bool
+    ensures { IsTrue result → Appends (W.contents out.old) (W.contents out.new) (listing script.now) }
+{
     let mut block = [0u8; BLOCK];
     let mut n = 0;
     let mut z = listing::begin();
@@ -20,15 +26,14 @@ fn list<W: Write, E: Write>(script: &[u8], out: &mut W, errors: &mut E) {
         let kind = script[at];
         if listing::stops(z, kind) {
             let end = listing::put_stopped(&mut block, n, at);
-            show(&block, end, out, errors);
-            return;
+            return show(&block, end, out, errors);
         }
         let t = listing::turn(&mut block, n, z, kind, listing::number_at(script, at + 1));
         n = t.at;
         z = t.session;
         if FULL < n {
             if !show(&block, n, out, errors) {
-                return;
+                return false;
             }
             n = 0;
         }
@@ -36,11 +41,14 @@ fn list<W: Write, E: Write>(script: &[u8], out: &mut W, errors: &mut E) {
         left -= 1;
     }
     let end = listing::put_ending(&mut block, n, at, script.len(), z);
-    show(&block, end, out, errors);
+    show(&block, end, out, errors)
 }
 
 // The first `n` bytes of a block; whether they were written.
-fn show<W: Write, E: Write>(block: &[u8], n: usize, out: &mut W, errors: &mut E) -> bool {
+fn show<W: Write, E: Write>(block: &[u8], n: usize, out: &mut W, errors: &mut E) -> bool
+    ensures within { IsTrue result → n ≤ length block.now }
+    ensures bytes { IsTrue result → Appends (W.contents out.old) (W.contents out.new) (take n block.now) }
+{
     if block.len() < n {
         return false;
     }
@@ -48,7 +56,9 @@ fn show<W: Write, E: Write>(block: &[u8], n: usize, out: &mut W, errors: &mut E)
 }
 
 // Bytes of the listing; whether they were written. What fails is said.
-fn write<W: Write, E: Write>(bytes: &[u8], out: &mut W, errors: &mut E) -> bool {
+fn write<W: Write, E: Write>(bytes: &[u8], out: &mut W, errors: &mut E) -> bool
+    ensures { IsTrue result → Appends (W.contents out.old) (W.contents out.new) bytes.now }
+{
     streams::write_output(out, bytes, b"replay: standard output", errors)
 }
 
