@@ -1,7 +1,7 @@
 //! Finds the Rust text and the libraries.
 //!
-//! The text: the folder named by RAFT_SRC, else `../shared/docs/src/src` beside the repository. Each of its files is compiled where it
-//! stands; OUT_DIR gets symbolic links to them, in the layout that rustc looks for. With it, `--cfg rust_text`.
+//! The text: the folder named by RAFT_SRC, else `../shared/docs/src/src` beside the repository. OUT_DIR gets a copy of each of its files,
+//! byte for byte, in the layout that rustc looks for (a link in a checkout is refused by `rt ci`). With it, `--cfg rust_text`.
 //!
 //! The libraries: `libcalls.a` and `liblisting.a` in the folder named by DIMECANDLE_LIBS, else in the repository's target/staticlib.
 //! With one, `--cfg libcalls` or `--cfg liblisting`; without it the model of the paper stands in its place. Their code is for x86-64,
@@ -11,7 +11,6 @@
 
 use std::env;
 use std::fs;
-use std::os::unix::fs::symlink;
 use std::path::{Path, PathBuf};
 use std::process::Command;
 
@@ -84,7 +83,7 @@ fn lay_out(package: &Path, source: &Path) {
     }
     for (file, place) in TEXT {
         match DOORS.iter().find(|(with_door, _)| *with_door == file) {
-            None => symlink(source.join(file), text.join(place)).expect("a symbolic link"),
+            None => copy(&source.join(file), &text.join(place)),
             Some((_, door)) => {
                 let door = package.join("src/raft/doors").join(door);
                 let both = format!("include!({:?});\ninclude!({:?});\n", source.join(file), door);
@@ -93,11 +92,17 @@ fn lay_out(package: &Path, source: &Path) {
         }
     }
     for file in STAND_INS {
-        symlink(package.join("src/raft").join(file), text.join(file)).expect("a symbolic link");
+        let stand_in = package.join("src/raft").join(file);
+        println!("cargo::rerun-if-changed={}", stand_in.display());
+        copy(&stand_in, &text.join(file));
     }
     let module = |name: &str| format!("{NOT_OURS}\n#[path = {:?}]\nmod {name};\n", text.join(name).join("mod.rs"));
     let modules: String = ["confchange", "quorum", "tracker"].map(module).concat();
     fs::write(text.join("modules.rs"), modules).expect("OUT_DIR can be written");
+}
+
+fn copy(from: &Path, to: &Path) {
+    fs::copy(from, to).unwrap_or_else(|error| panic!("{} cannot be copied: {error}", from.display()));
 }
 
 // ** The libraries

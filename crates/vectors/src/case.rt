@@ -155,12 +155,10 @@ fn first_difference(wanted: &[u8], lent: &[u8]) -> Outcome
     requires { length wanted.now ≡ length lent.now }
     ensures { result ≡ Outcome.Same → lent.now ≡ wanted.now }
 {
-    let mut i = 0;
-    while i < wanted.len() {
+    for i in 0..wanted.len() {
         if lent[i] != wanted[i] {
             return Outcome::Byte(i, lent[i], wanted[i]);
         }
-        i += 1;
     }
     Outcome::Same
 }

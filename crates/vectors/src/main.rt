@@ -87,13 +87,11 @@ fn replay<R: Read, E: Write>(
         failed: 0,
         lost: false,
     };
-    let mut left = cases;
-    while 0 < left {
+    for _ in 0..cases {
         c = next(rt, from, errors, c)?;
         if c.lost {
             return Ok(c);
         }
-        left -= 1;
     }
     Ok(c)
 }

@@ -35,15 +35,13 @@ pub(crate) fn sum(a: usize, b: usize) -> usize
 pub(crate) fn unpack(s: &[u8], out: &mut [u8]) -> Ends {
     let mut from = 0;
     let mut to = 0;
-    let mut left = s.len();
-    while 0 < left {
+    for _ in 0..s.len() {
         if s.len() <= from {
             return Ends { from, to };
         }
         let e = piece(s, from, out, to);
         from = e.from;
         to = e.to;
-        left -= 1;
     }
     Ends { from, to }
 }
@@ -96,10 +94,8 @@ fn put_small(out: &mut [u8], at: usize, b: u8) -> usize {
 // A word for each byte.
 fn words(s: &[u8], out: &mut [u8], to: usize) -> usize {
     let mut p = to;
-    let mut i = 0;
-    while i < s.len() {
-        p = put_small(out, p, s[i]);
-        i += 1;
+    for b in s {
+        p = put_small(out, p, *b);
     }
     p
 }
@@ -107,8 +103,7 @@ fn words(s: &[u8], out: &mut [u8], to: usize) -> usize {
 // Bytes that stand so far back. Those that are written here may be read again: at distance 1 a byte is repeated.
 fn copy(out: &mut [u8], to: usize, distance: usize, n: usize) -> usize {
     let mut p = to;
-    let mut left = n;
-    while 0 < left {
+    for _ in 0..n {
         if p < distance {
             return PAST;
         }
@@ -118,7 +113,6 @@ fn copy(out: &mut [u8], to: usize, distance: usize, n: usize) -> usize {
         }
         let b = out[at];
         p = text::put_byte(out, p, b);
-        left -= 1;
     }
     p
 }

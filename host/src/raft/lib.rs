@@ -7,8 +7,8 @@
 //! | quorum.rs | quorum/majority.rs, quorum/joint.rs |
 //! | | fx.rs (crate fxhash) and ../../getset (crate getset) |
 //!
-//! build.rs writes the modules of the text into OUT_DIR: each is the file itself, by a symbolic link, or an `include!` of it with a door
-//! behind it. doors/ are functions that read what the text keeps private; they decide nothing. bridge.rs makes and reads the
+//! build.rs writes the modules of the text into OUT_DIR: each is a copy of the file, or an `include!` of it with a door behind it.
+//! doors/ are functions that read what the text keeps private; they decide nothing. bridge.rs makes and reads the
 //! text's values.
 //!
 //! Without the text this crate is empty, and the program says so.
