@@ -61,7 +61,7 @@ pub(crate) fn outgoing_first(cs: ConfState) -> ConfState {
 }
 
 // A change list: the first `len` of `ids` and of `kinds`.
-#[derive(Drop)]
+#[derive(Clone, Copy)]
 pub(crate) struct Changes {
     pub ids: [u64; changes::MAX_CHANGES],
     pub kinds: [u8; changes::MAX_CHANGES],

@@ -10,7 +10,7 @@ use std::io;
 use std::io::{Cursor, ErrorKind, Read, Write};
 
 // What reading came to: how many bytes stand at the front of the buffer, and whether a read failed, which has then been said.
-#[derive(Drop)]
+#[derive(Clone, Copy)]
 pub struct Input {
     pub len: usize,
     pub failed: bool,

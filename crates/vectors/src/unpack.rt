@@ -6,7 +6,7 @@ ghost use Rattle.std.specs.Prelude.{◌≡◌, ◌+◌, min};
 ghost use Rattle.text.specs.Put.{last};
 
 // Where a piece ends: in what is read and in what is written. What is damaged ends past both.
-#[derive(Drop)]
+#[derive(Clone, Copy)]
 pub(crate) struct Ends {
     pub from: usize,
     pub to: usize,
