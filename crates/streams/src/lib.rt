@@ -3,8 +3,8 @@
 // reader and a writer whose bytes are known the contracts say that none is lost and none made up.
 #![tactic(auto)]
 
-ghost use Rattle.std.specs.Prelude.{◌<◌, ◌≤◌, length, take, IsTrue, IsFalse};
-ghost use Rattle.std.specs.Io.KnownBytes.{Appends, Consumes, IsAtEnd};
+ghost use Rattle.std.specs.Prelude.{◌≡◌, ◌+◌, ◌<◌, ◌≤◌, length, take, drop, IfOk, IsTrue, IsFalse};
+ghost use Rattle.std.specs.Io.KnownBytes.{Appends, Consumes, IsAtEnd, ReadConsumes};
 
 use std::io;
 use std::io::{Cursor, ErrorKind, Read, Write};
@@ -29,7 +29,7 @@ pub fn read_input<R: Read, E: Write>(
 {
     let mut n = 0;
     while n < buf.len() {
-        match from.read(&mut buf[n..]) {
+        match read_from(from, buf, n) {
             Ok(0) => {
                 return Input {
                     len: n,
@@ -50,6 +50,17 @@ pub fn read_input<R: Read, E: Write>(
         len: n,
         failed: false,
     }
+}
+
+// One read into `buf` from the place `at` on; no byte at the end of the input.
+fn read_from<R: Read>(from: &mut R, buf: &mut [u8], at: usize) -> io::Result<usize>
+    requires { at ≤ length buf.old }
+    ensures within { IfOk result (λ n. at + n ≤ length buf.new) }
+    ensures long { length buf.new ≡ length buf.old }
+    ensures front { take at buf.new ≡ take at buf.old }
+    ensures bytes { ReadConsumes (R.remaining from.old) (R.remaining from.new) result (drop at buf.new) }
+{
+    from.read(&mut buf[at..])
 }
 
 // Writes all of `bytes` and answers whether it could. `what` names the output where it could not, which `errors` is told; of a pipe that nobody reads any
