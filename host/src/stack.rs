@@ -20,8 +20,11 @@ use crate::subject::{say_missing, Subject, CALLS_AT_HAND, EMULATED, EMULATED_COD
 use crate::words::{Block, ConfState, Request, CAPACITY, REPLY_BYTES};
 use std::process::ExitCode;
 
-/// What a call or a script may take. Code of the older kit's kept within half of it (docs/DECISIONS.md, "The bound on the stack of a call").
-const BOUND: usize = 256 << 10;
+/// What a script may take.
+const BOUND: usize = 128 << 10;
+
+/// What a call may take. Code of the older kit's kept within half of it (docs/DECISIONS.md, "The bound on the stack of a call").
+const BOUND_OF_CALLS: usize = 256 << 10;
 
 /// What reading and writing a message may take: less than a list.
 const BOUND_OF_MESSAGES: usize = 512;
@@ -38,7 +41,7 @@ pub fn run() -> ExitCode {
         return ExitCode::from(CANNOT_RUN);
     }
     println!("{}", if EMULATED { EMULATED_CODE } else { STATIC_CODE });
-    let calls = CALLS.iter().map(|call| (format!("dimecandle_call, {}", call.name), peak_of_call(call.number), BOUND));
+    let calls = CALLS.iter().map(|call| (format!("dimecandle_call, {}", call.name), peak_of_call(call.number), BOUND_OF_CALLS));
     let others = [
         ("dimecandle_read_conf_state".to_string(), peak_of_reading(), BOUND_OF_MESSAGES),
         ("dimecandle_write_conf_state".to_string(), peak_of_writing(), BOUND_OF_MESSAGES),

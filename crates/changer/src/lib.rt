@@ -306,6 +306,7 @@ fn tracked_then(ids: IdSet, e: MapChange) -> IdSet
 }
 
 // Staged ids join learners; each outgoing id now neither incoming nor learner is logged Remove; outgoing empties; the flag is false.
+#[inline(never)]
 fn leave(conf: Configuration) -> Answer
     ensures { result ≡ leaving_in conf }
 {

@@ -122,6 +122,7 @@ pub fn turn(out: &mut [u8], at: usize, z: Session, kind: u8, number: u64) -> Tur
 }
 
 // A change is added to the pending list; there is room, or the listing ended before.
+#[inline(never)]
 fn pend(z: Session, kind: u8, id: u64) -> Session
     ensures { result ≡ pend_in z kind id }
 {
@@ -137,6 +138,7 @@ fn pend(z: Session, kind: u8, id: u64) -> Session
 }
 
 // What the pending list is answered: 3 simple, 4 enter, 5 enter with auto leave, 6 leave.
+#[inline(always)]
 fn answer_to(z: Session, kind: u8) -> Answer
     ensures { result ≡ answer_in z kind }
 {

@@ -12,6 +12,7 @@ use idset::IdSet;
 use tracker::{ChangeLog, Configuration, MapChange, MapChangeType};
 
 // An accepted answer's line, or a refusal's.
+#[inline(never)]
 pub fn put_answer(out: &mut [u8], at: usize, k: u64, a: Answer) -> usize
     ensures { Put out.old at (answer_text k a) out.new result }
 {

@@ -127,6 +127,7 @@ fn enrol(
 }
 
 // One entry: Add writes a fresh record over any old one; Remove of an absent id does nothing.
+#[inline(never)]
 fn enter(p: Peers, e: MapChange, fresh: Progress) -> Peers
     requires { Rostered p.ids p.records }
     ensures { result ≡ enter_in fresh (entry_of e) (peers_in p) }
