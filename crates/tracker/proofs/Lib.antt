@@ -10,3 +10,4 @@ pub mod EnrolPeers
 pub mod EnrolEntry
 pub mod EnrolLog
 pub mod EnrolApply
+pub mod Refusals

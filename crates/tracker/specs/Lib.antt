@@ -4,3 +4,4 @@ pub mod Apply
 pub mod ConfStates
 pub mod Enrol
 pub mod Examples
+pub mod Refusals

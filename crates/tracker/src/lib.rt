@@ -10,6 +10,7 @@ use idset::IdSet;
 use progress::Progress;
 
 pub mod numbers; // the refusal numbers
+pub mod refusal; // why a call is refused
 pub mod form; // well formed
 pub mod apply; // apply_conf
 pub mod conf_state; // to_conf_state
