@@ -1,6 +1,6 @@
 pub mod Sizes
+pub mod Words
 pub mod Part
-pub mod Steps
 pub mod Shift
 pub mod Turned
 pub mod Padded
