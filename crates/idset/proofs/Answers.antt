@@ -10,10 +10,8 @@ use lib.ListN.{length, take, drop}
 use Rattle.std.specs.Prelude.{Option, None, Some}
 use Rattle.rules.specs.Ids.{memb, ascending, is_empty}
 use Rattle.idset.specs.Places.{zeros, rank, place_of, place_in, insert_at, remove_at}
-use Rattle.idset.specs.Set.{held, well_formed, insert_of, remove_of}
+use Rattle.idset.specs.Set.{held, well_formed, insert_of, remove_of, Inserted, Removed}
 use Rattle.idset.specs.declared.IdSet.{IdSet}
-use Rattle.idset.specs.declared.Inserted.{Inserted}
-use Rattle.idset.specs.declared.Removed.{Removed}
 
 -- ** malformed_in, is_empty
 

@@ -14,8 +14,8 @@ use Rattle.rules.proofs.Sets.{and_left, and_right, insert_same, length_remove, r
 use Rattle.idset.specs.Places.{zeros, rank, place_of, insert_at, remove_at}
 use Rattle.idset.specs.Set.{held, set_of, well_formed, insert_of, remove_of, union_of}
 use Rattle.idset.specs.declared.IdSet.{IdSet}
-use Rattle.idset.specs.declared.Inserted.{Inserted}
-use Rattle.idset.specs.declared.Removed.{Removed}
+use Rattle.idset.specs.Set.{Inserted}
+use Rattle.idset.specs.Set.{Removed}
 use Rattle.idset.proofs.Places.{rank_le, insert_split, length_insert, place-within, remove_split}
 use Rattle.idset.proofs.Padded.{insert_padded, remove_padded}
 use Rattle.idset.proofs.Merge.{merge-all}

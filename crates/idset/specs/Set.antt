@@ -1,11 +1,10 @@
 -- Sets of ids: which list a set holds, which set holds a list, and what each operation makes of any set, malformed ones included.
 -- On a well-formed set the operations are those of the rules (proofs/Bridge.antt). Assumes nothing.
-use Rattle.std.specs.Prelude.{ℕ, ◌+◌, ◌-◌, Bool, true, false, ◌&&◌, cond, List, ◌++◌, eqb, leb, length, take, drop, replicate}
+use Rattle.std.specs.Prelude.{ℕ, Result, Ok, Err, ◌+◌, ◌-◌, Bool, true, false, ◌&&◌, cond, List, ◌++◌, eqb, leb, length, take, drop, replicate}
 use Rattle.rules.specs.Ids.{memb, ascending}
 use Rattle.idset.specs.Places.{zeros, rank, place_of, insert_at, remove_at, merge}
 use Rattle.idset.specs.declared.IdSet.{IdSet}
-use Rattle.idset.specs.declared.Inserted.{Inserted}
-use Rattle.idset.specs.declared.Removed.{Removed}
+use Rattle.idset.specs.declared.Full.{Full}
 use Rattle.idset.specs.declared.United.{United}
 
 -- ** The bridge
@@ -21,6 +20,26 @@ set_of xs = record { ids = xs ++ replicate (64 - length xs) 0; len = length xs }
 -- "Each set .. hold[s] at most 64 ids, strictly ascending; unused places hold zero"
 unfoldable pub well_formed : IdSet → Bool
 well_formed s = eqb (length s.ids) 64 && leb s.len 64 && ascending (held s) && zeros (drop s.len s.ids)
+
+-- ** What the operations come to
+
+-- the set that is left, whether it changed, and whether there was no room
+pub record Inserted : Type 0 where
+  pub set : IdSet
+  pub changed : Bool
+  pub full : Bool
+
+pub record Removed : Type 0 where
+  pub set : IdSet
+  pub changed : Bool
+
+-- an answer beside the set that is left
+abbrev pub inserted : IdSet → Result Bool Full → Inserted
+inserted s (Ok changed) = record { set = s; changed = changed; full = false }
+inserted s (Err f) = record { set = s; changed = false; full = true }
+
+abbrev pub removed : IdSet → Bool → Removed
+removed s changed = record { set = s; changed = changed }
 
 -- ** The operations
 
