@@ -12,6 +12,7 @@ use progress::Progress;
 pub mod numbers; // the refusal numbers
 pub mod form; // well formed
 pub mod apply; // apply_conf
+mod roster; // the tracked as the log is taken
 pub mod conf_state; // to_conf_state
 
 // The configuration tracked in a `Tracker`.

@@ -1,7 +1,7 @@
 -- `remove_record` moves the gap to the last place, which gets the unused record. Assumes nothing.
 use borrow.Author.Rules.{rules}
 use Rattle.idset.proofs.Shift.{close_start, close_end, close_next}
-use Rattle.tracker.proofs.apply.remove_record.Goals as goal
+use Rattle.tracker.proofs.roster.remove_record.Goals as goal
 
 pub loop-i-init : goal.loop-i-init
 loop-i-init c = search (rules, close_start)
