@@ -8,7 +8,7 @@ use Rattle.rules.specs.Apply.{no_conf_state, to_conf_state}
 use Rattle.idset.specs.Set.{well_formed}
 use Rattle.idset.proofs.Bridge.{set-held}
 use Rattle.tracker.specs.Bridge.{list_in, conf_state_of}
-use Rattle.tracker.specs.ConfStates.{written_of}
+use Rattle.tracker.specs.ConfStates.{lists_in, written_of}
 use Rattle.tracker.specs.Form.{conf_well_formed, all_unused, tracker_well_formed, all_blank, log_well_formed}
 use Rattle.tracker.specs.declared.Configuration.{Configuration}
 use Rattle.tracker.specs.declared.ChangeLog.{ChangeLog}
@@ -51,12 +51,10 @@ module _ (t : Tracker) (b : Bool) (e : b ≡ not (tracker_well_formed t)) where
   unfolding written_of
   written_none f k q = rw (failed (tracker_well_formed t) b e f, q)
 
-  module _ (f : b ≡ false) (v : IdList) (i : v ≡ list_in t.conf.incoming) (l : IdList) (j : l ≡ list_in t.conf.learners) where
-    pub written-lists : (o : IdList) → o ≡ list_in t.conf.outgoing → (n : IdList) → n ≡ list_in t.conf.learners_next
-        → ◌≡◌ {A = Written} (record { number = 0; id = 0; conf_state = record { voters = v; learners = l; voters_outgoing = o; learners_next = n; auto_leave = t.conf.auto_leave } }) (written_of t)
-    unfolding written_of to_conf_state
-    written-lists o k n m =
-        let w : tracker_well_formed t ≡ true = passed (tracker_well_formed t) b e f in
-        let c : Configuration = t.conf in
-        let s : Sets c = conf-sets c (tracker_parts t w).conf in
-        rw (w, tracker_formed t w, set-held c.incoming s.incoming, set-held c.outgoing s.outgoing, set-held c.learners s.learners, set-held c.learners_next s.next, i, j, k, m)
+  pub written-lists : b ≡ false → (k : ConfState) → k ≡ lists_in t.conf → ◌≡◌ {A = Written} (record { number = 0; id = 0; conf_state = k }) (written_of t)
+  unfolding written_of to_conf_state
+  written-lists f k q =
+      let w : tracker_well_formed t ≡ true = passed (tracker_well_formed t) b e f in
+      let c : Configuration = t.conf in
+      let s : Sets c = conf-sets c (tracker_parts t w).conf in
+      rw (w, tracker_formed t w, set-held c.incoming s.incoming, set-held c.outgoing s.outgoing, set-held c.learners s.learners, set-held c.learners_next s.next, q)
