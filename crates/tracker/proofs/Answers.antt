@@ -7,13 +7,12 @@ use lib.ListN.{length, drop}
 use Rattle.rules.specs.Apply.{no_conf_state, to_conf_state}
 use Rattle.idset.specs.Set.{well_formed}
 use Rattle.idset.proofs.Bridge.{set-held}
-use Rattle.tracker.specs.Bridge.{list_in, conf_state_of}
+use Rattle.tracker.specs.Bridge.{conf_state_of}
 use Rattle.tracker.specs.ConfStates.{lists_in, written_of}
 use Rattle.tracker.specs.Form.{conf_well_formed, all_unused, tracker_well_formed, all_blank, log_well_formed}
 use Rattle.tracker.specs.declared.Configuration.{Configuration}
 use Rattle.tracker.specs.declared.ChangeLog.{ChangeLog}
 use Rattle.tracker.specs.declared.Tracker.{Tracker}
-use Rattle.tracker.specs.declared.IdList.{IdList}
 use Rattle.tracker.specs.declared.ConfState.{ConfState}
 use Rattle.tracker.specs.declared.Written.{Written}
 use Rattle.tracker.proofs.Confs.{Sets, conf-sets}

@@ -135,8 +135,8 @@ module _ {s : IdSet} {rs : List Progress} (o : Rostered s rs) {ps : List Peer} (
   pub remove_none : b ≡ false → ps ≡ untrack x ps
   remove_none t = sym (untrack_none x ps (sym tells ∙ t))
 
-  pub remove_gone : b ≡ true → (l : List Progress) → l ≡ remove_at at unused_record rs → (g : Removed) → g ≡ remove_of x s → Holds g.set l (untrack x ps)
-  remove_gone t l i g j =
+  pub remove_gone : b ≡ true → (u : Progress) → u ≡ unused_record → (l : List Progress) → l ≡ remove_at at u rs → (g : Removed) → g ≡ remove_of x s → Holds g.set l (untrack x ps)
+  remove_gone t u n l i g j =
       let less : R.Set (ids (untrack x ps)) =
       rw (ids-untrack x ps) (record { rises = ascending_remove x (ids ps) q.rises; few = omega (arith, q.few, length_remove_le x (ids ps)) }) in
-      holds (untrack x ps) less (rw (ids-untrack x ps, ids-are, j, remove_formed x s o.set)) (rw (places-gone x ps q.rises (sym tells ∙ t) q.few, places-are, ← place, i))
+      holds (untrack x ps) less (rw (ids-untrack x ps, ids-are, j, remove_formed x s o.set)) (rw (places-gone x ps q.rises (sym tells ∙ t) q.few, places-are, ← place, i, n))

@@ -1,14 +1,13 @@
 // The tracked ids with a record each, as `apply_conf` takes the log entry by entry: contracts see the peers of the rules.
-ghost use Rattle.std.specs.Prelude.{◌≡◌, ◌<◌, [], ◌∷◌, OnOk, is_ok, if◌then◌else◌};
-ghost use Rattle.progress.specs.Record.{unused_record};
+ghost use Rattle.std.specs.Prelude.{◌≡◌, [], ◌∷◌, OnOk, is_ok, if◌then◌else◌};
 ghost use Rattle.rules.specs.State.{ids, add};
 ghost use Rattle.rules.specs.Apply.{room, enrol, track, untrack};
-ghost use Rattle.idset.specs.Places.{insert_at, remove_at};
 ghost use Rattle.tracker.specs.Bridge.{entry_of, entries_of};
 ghost use Rattle.tracker.specs.Enrol.{said};
 
 use crate::{MapChange, MapChangeType, Tracker};
 use idset::IdSet;
+use idset::slices::{insert_at, remove_at};
 use progress::Progress;
 use std::marker::Model;
 
@@ -81,7 +80,7 @@ impl Roster {
         if Tracker::CAPACITY <= len {
             return Err(NoRoom { id });
         }
-        self.records = insert_record(self.records, at, record);
+        insert_at(&mut self.records, at, record);
         self.ids = self.ids.insert(id).set;
         Ok(())
     }
@@ -93,44 +92,8 @@ impl Roster {
         let len = self.ids.len;
         let at = idset::seek(&self.ids.ids, len, 0, id);
         if idset::stands_at(&self.ids.ids, len, at, id) {
-            self.records = remove_record(self.records, at);
+            remove_at(&mut self.records, at, Progress::unused());
             self.ids = self.ids.remove(id).set;
         }
     }
-}
-
-// `records` with `r` at the place `at`: those from there on stand one place later, and the last is dropped.
-fn insert_record(
-    records: [Progress; Tracker::CAPACITY],
-    at: usize,
-    r: Progress,
-) -> [Progress; Tracker::CAPACITY]
-    ensures { result ≡ insert_at at r records }
-{
-    let mut out = records;
-    let mut carried = r;
-    let mut i = at;
-    while i < Tracker::CAPACITY {
-        let next = out[i];
-        out[i] = carried;
-        carried = next;
-        i += 1;
-    }
-    out
-}
-
-// `records` without the place `at`: those after it stand one place earlier, and the last place is unused.
-fn remove_record(records: [Progress; Tracker::CAPACITY], at: usize) -> [Progress; Tracker::CAPACITY]
-    requires { at < 64 }
-    ensures { result ≡ remove_at at unused_record records }
-{
-    let mut out = records;
-    let mut i = at;
-    while i < Tracker::LAST {
-        let next = out[i + 1];
-        out[i] = next;
-        i += 1;
-    }
-    out[Tracker::LAST] = Progress::unused();
-    out
 }

@@ -23,10 +23,10 @@ pub returns-then-len-ge-CAPACITY-clause-value : goal.returns-then-len-ge-CAPACIT
 returns-then-len-ge-CAPACITY-clause-value c = full-says c.self.invariant c.self.view_is _ _ c.seek-at.ensures _ c.stands_at.ensures c.if-stands_at.false c.if-len-ge-CAPACITY.true
 
 pub invariant_of-self-2 : goal.invariant_of-self-2
-invariant_of-self-2 c = (add_new c.self.invariant c.self.view_is _ _ c.seek-at.ensures _ c.stands_at.ensures c.args.record c.if-stands_at.false c.if-len-ge-CAPACITY.false _ c.insert_record-self-inside.ensures _ c.insert.ensures).rostered
+invariant_of-self-2 c = (add_new c.self.invariant c.self.view_is _ _ c.seek-at.ensures _ c.stands_at.ensures c.args.record c.if-stands_at.false c.if-len-ge-CAPACITY.false _ c.insert_at.ensures _ c.insert.ensures).rostered
 
 pub returns-clause-value : goal.returns-clause-value
 returns-clause-value c = new-says c.self.invariant c.self.view_is _ _ c.seek-at.ensures _ c.stands_at.ensures c.if-stands_at.false c.if-len-ge-CAPACITY.false
 
 pub returns-clause-after : goal.returns-clause-after
-returns-clause-after c = (add_new c.self.invariant c.self.view_is _ _ c.seek-at.ensures _ c.stands_at.ensures c.args.record c.if-stands_at.false c.if-len-ge-CAPACITY.false _ c.insert_record-self-inside.ensures _ c.insert.ensures).peers
+returns-clause-after c = (add_new c.self.invariant c.self.view_is _ _ c.seek-at.ensures _ c.stands_at.ensures c.args.record c.if-stands_at.false c.if-len-ge-CAPACITY.false _ c.insert_at.ensures _ c.insert.ensures).peers
