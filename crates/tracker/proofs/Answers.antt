@@ -14,7 +14,7 @@ use Rattle.tracker.specs.declared.Configuration.{Configuration}
 use Rattle.tracker.specs.declared.ChangeLog.{ChangeLog}
 use Rattle.tracker.specs.declared.Tracker.{Tracker}
 use Rattle.tracker.specs.declared.ConfState.{ConfState}
-use Rattle.tracker.specs.declared.Written.{Written}
+use Rattle.tracker.specs.ConfStates.{Written}
 use Rattle.tracker.proofs.Confs.{Sets, conf-sets}
 use Rattle.tracker.proofs.Peers.{tracker_parts, tracker_formed}
 

@@ -19,15 +19,8 @@ use Rattle.tracker.specs.declared.Configuration.{Configuration}
 use Rattle.tracker.specs.declared.MapChange.{MapChange}
 use Rattle.tracker.specs.declared.ChangeLog.{ChangeLog}
 use Rattle.tracker.specs.declared.Tracker.{Tracker}
-use Rattle.tracker.specs.declared.Outcome.{Outcome}
+use Rattle.tracker.specs.Apply.{Outcome}
 use Rattle.tracker.proofs.Bridge.{unit_tracker, tracker_formed, unit_conf, conf-formed, log-formed, roster_set, roster_places}
-
--- an outcome as its verdict and its state
-pub record Told (o a : Outcome) : Type 0 where
-  pub both : (verdict_in o ≡ verdict_in a) × (o.tracker ≡ a.tracker)
-
-told : (o a : Outcome) → o ≡ a → Told o a
-told o a e = record { both = (ap verdict_in e, ap (λ (u : Outcome). u.tracker) e) }
 
 -- nothing is malformed
 module _ (t : Tracker) (c : Configuration) (log : ChangeLog) (next : ℕ) (w : tracker_well_formed t ≡ true) (v : conf_well_formed c ≡ true) (u : log_well_formed log ≡ true) where
@@ -40,14 +33,14 @@ module _ (t : Tracker) (c : Configuration) (log : ChangeLog) (next : ℕ) (w : t
   formed-all = rw (w, v, u, tracker_formed t w, conf-formed c v, log-formed log u)
 
   -- es: the entries that are taken
-  pub apply-full : (es : List MapChange) (x : ℕ) → fault 16 x ≡ room (entries_of es) (ids (state_of t).peers) → es ≡ take log.count log.entries → Told (refused_of t 16 x) (apply_of t c log next)
-  apply-full es x k g =
-      let n : room (log_of log) (ids (state_of t).peers) ≡ fault 16 x = rw (← g) (sym k) in
-      told _ _ (sym (formed-all ∙ rw (n, unit_tracker t w)))
+  pub apply-full : (es : List MapChange) (m x : ℕ) → fault m x ≡ room (entries_of es) (ids (state_of t).peers) → es ≡ take log.count log.entries → refused_of t m x ≡ apply_of t c log next
+  apply-full es m x k g =
+      let n : room (log_of log) (ids (state_of t).peers) ≡ fault m x = rw (← g) (sym k) in
+      sym (formed-all ∙ rw (n, unit_tracker t w))
 
   pub apply-done : (es : List MapChange) (r : Progress) → r ≡ fresh_record next t.max_inflight → ok ≡ room (entries_of es) (ids (state_of t).peers) → {s : IdSet} {rs : List Progress} (ps : List Peer)
-      → Rostered s rs → peers_of (held s) rs ≡ ps → ps ≡ enrol r (entries_of es) (state_of t).peers → es ≡ take log.count log.entries → Told (done s rs) (apply_of t c log next)
+      → Rostered s rs → peers_of (held s) rs ≡ ps → ps ≡ enrol r (entries_of es) (state_of t).peers → es ≡ take log.count log.entries → done s rs ≡ apply_of t c log next
   apply-done es r i k {s} {rs} ps o m e g =
       let n : room (log_of log) (ids (state_of t).peers) ≡ ok = rw (← g) (sym k) in
       let f : enrol (fresh_record next t.max_inflight) (log_of log) (state_of t).peers ≡ peers_of (held s) rs = rw (← i, ← g) (sym (m ∙ e)) in
-      told _ _ (sym (formed-all ∙ rw (n, f, unit_conf c v, roster_set o, roster_places o)))
+      sym (formed-all ∙ rw (n, f, unit_conf c v, roster_set o, roster_places o))

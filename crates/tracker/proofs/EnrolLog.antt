@@ -51,8 +51,8 @@ module _ {r : Progress} {es : List MapChange} {ps₀ ps : List Peer} {i : ℕ} (
   both : room (entries_of es) (ids ps₀) ≡ room now (ids ps) ▸ room (entries_of (drop (i + 1) es)) (ids (enrol r now ps))
   both = s.says ∙ rw left (room-first r (entries_of (drop (i + 1) es)) ps (entry_of (get_or es i d)))
 
-  pub enrol-stop : (x : ℕ) → fault 16 x ≡ room now (ids ps) → fault 16 x ≡ room (entries_of es) (ids ps₀)
-  enrol-stop x k = sym (both ∙ rw (← k))
+  pub enrol-stop : (n x : ℕ) → fault n x ≡ room now (ids ps) → fault n x ≡ room (entries_of es) (ids ps₀)
+  enrol-stop n x k = sym (both ∙ rw (← k))
 
   pub enrol-next : ok ≡ room now (ids ps) → (qs : List Peer) → qs ≡ enrol r now ps → Enrolling r es ps₀ qs (i + 1)
   enrol-next k qs e = record {

@@ -1,6 +1,6 @@
 -- What `apply_conf` answers and leaves, for every state, configuration and log: the rules' `apply_conf` through the bridge, and 1 where
 -- one of the three is malformed. Assumes nothing.
-use Rattle.std.specs.Prelude.{ℕ, ◌&&◌, cond}
+use Rattle.std.specs.Prelude.{ℕ, Result, ◌&&◌, cond}
 use Rattle.rules.specs.Answers as rules
 use Rattle.rules.specs.Answers.{ok, fault}
 use Rattle.rules.specs.Apply.{apply_conf}
@@ -9,8 +9,19 @@ use Rattle.tracker.specs.Form.{conf_well_formed, tracker_well_formed, log_well_f
 use Rattle.tracker.specs.declared.Configuration.{Configuration}
 use Rattle.tracker.specs.declared.ChangeLog.{ChangeLog}
 use Rattle.tracker.specs.declared.Tracker.{Tracker}
-use Rattle.tracker.specs.declared.Outcome.{Outcome}
-use Rattle.tracker.specs.declared.Verdict.{Verdict}
+use Rattle.tracker.specs.declared.refusal.Refusal.{Refusal}
+use Rattle.tracker.specs.Refusals.{said}
+
+-- number and id
+pub record Verdict : Type 0 where
+  pub number : ℕ
+  pub id : ℕ
+
+-- number and id, and the tracker that is left
+pub record Outcome : Type 0 where
+  pub number : ℕ
+  pub id : ℕ
+  pub tracker : Tracker
 
 -- "0 is accepted. A refusal gives the number and the id named here, else id 0"
 abbrev pub number_of : rules.Verdict → ℕ
@@ -27,6 +38,10 @@ verdict_of v = record { number = number_of v; id = id_of v }
 
 abbrev pub refused_of : Tracker → ℕ → ℕ → Outcome
 refused_of t n x = record { number = n; id = x; tracker = t }
+
+-- what a call says that leaves this tracker
+abbrev pub outcome_left : {A : Type 0} → Tracker → Result A Refusal → Outcome
+outcome_left t r = record { number = number_of (said r); id = id_of (said r); tracker = t }
 
 -- a rules' outcome as a struct
 abbrev pub outcome_of : rules.Outcome → Outcome

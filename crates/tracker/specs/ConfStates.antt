@@ -1,5 +1,5 @@
 -- What `to_conf_state` answers, for every state: the rules' `to_conf_state` through the bridge. Assumes nothing.
-use Rattle.std.specs.Prelude.{cond}
+use Rattle.std.specs.Prelude.{ℕ, Result, Ok, Err, cond}
 use Rattle.rules.specs.Answers.{fault}
 use Rattle.rules.specs.Apply as rules
 use Rattle.rules.specs.Apply.{no_conf_state, to_conf_state}
@@ -9,7 +9,8 @@ use Rattle.tracker.specs.Apply.{number_of, id_of}
 use Rattle.tracker.specs.declared.Configuration.{Configuration}
 use Rattle.tracker.specs.declared.ConfState.{ConfState}
 use Rattle.tracker.specs.declared.Tracker.{Tracker}
-use Rattle.tracker.specs.declared.Written.{Written}
+use Rattle.tracker.specs.declared.refusal.Refusal.{Refusal}
+use Rattle.tracker.specs.Refusals.{number_at, id_at}
 
 -- the sets of a configuration as lists, and its flag
 abbrev pub lists_in : Configuration → ConfState
@@ -21,6 +22,17 @@ lists_in c =
       learners_next = list_in c.learners_next;
       auto_leave = c.auto_leave;
     }
+
+-- number and id, and the lists
+pub record Written : Type 0 where
+  pub number : ℕ
+  pub id : ℕ
+  pub conf_state : ConfState
+
+-- what is said: a refusal with empty lists and a false flag
+abbrev pub written_told : Result ConfState Refusal → Written
+written_told (Ok c) = record { number = 0; id = 0; conf_state = c }
+written_told (Err r) = record { number = number_at r; id = id_at r; conf_state = conf_state_of no_conf_state }
 
 -- a rules' answer as a struct
 abbrev pub written_in : rules.Written → Written

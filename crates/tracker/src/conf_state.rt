@@ -2,28 +2,21 @@
 ghost use Rattle.std.specs.Prelude.{◌≡◌};
 ghost use Rattle.rules.specs.Apply.{no_conf_state};
 ghost use Rattle.tracker.specs.Bridge.{list_in, conf_state_of};
-ghost use Rattle.tracker.specs.ConfStates.{written_of, lists_in};
+ghost use Rattle.tracker.specs.ConfStates.{written_of, written_told, lists_in};
 
-use crate::{ConfState, Configuration, IdList, Tracker, Written, numbers};
+use crate::refusal::Refusal;
+use crate::{ConfState, Configuration, IdList, Tracker};
 use idset::IdSet;
 
 impl Tracker {
     // Create a new `ConfState` from the configuration itself; the lists are ascending.
-    pub fn to_conf_state(self) -> Written
-        ensures { result ≡ written_of self }
+    pub fn to_conf_state(&self) -> Result<ConfState, Refusal>
+        ensures { written_told result ≡ written_of self.now }
     {
         if self.is_malformed() {
-            return Written {
-                number: numbers::MALFORMED,
-                id: 0,
-                conf_state: ConfState::new(),
-            };
+            return Err(Refusal::Malformed);
         }
-        Written {
-            number: numbers::ACCEPTED,
-            id: 0,
-            conf_state: self.conf.into(),
-        }
+        Ok(self.conf.into())
     }
 }
 

@@ -7,8 +7,8 @@ use progress::Progress;
 
 impl Configuration {
     #[tactic(auto, unfolding(crate::specs::Form::conf_well_formed))]
-    pub fn is_malformed(self) -> bool
-        ensures { result ≡ not (conf_well_formed self) }
+    pub fn is_malformed(&self) -> bool
+        ensures { result ≡ not (conf_well_formed self.now) }
     {
         self.incoming.is_malformed()
             || self.outgoing.is_malformed()
@@ -28,16 +28,16 @@ impl MapChange {
 }
 
 impl ChangeLog {
-    pub fn is_malformed(self) -> bool
-        ensures { result ≡ not (log_well_formed self) }
+    pub fn is_malformed(&self) -> bool
+        ensures { result ≡ not (log_well_formed self.now) }
     {
         Self::CAPACITY < self.count || self.entries.iter().skip(self.count).any(|e| !e.is_blank())
     }
 }
 
 impl Tracker {
-    pub fn is_malformed(self) -> bool
-        ensures { result ≡ not (tracker_well_formed self) }
+    pub fn is_malformed(&self) -> bool
+        ensures { result ≡ not (tracker_well_formed self.now) }
     {
         self.conf.is_malformed()
             || self.ids.is_malformed()

@@ -9,7 +9,6 @@ ghost use Rattle.tracker.specs.Bridge.{configuration_of, change_log_of, tracker_
 use idset::IdSet;
 use progress::Progress;
 
-pub mod numbers; // the refusal numbers
 pub mod refusal; // why a call is refused
 pub mod form; // well formed
 pub mod apply; // apply_conf
@@ -71,29 +70,6 @@ pub struct ConfState {
     pub voters_outgoing: IdList,
     pub learners_next: IdList,
     pub auto_leave: bool,
-}
-
-// What a call that changes the state answers: number and id, 0 where it is accepted, and the state that it leaves.
-#[derive(Clone, Copy)]
-pub struct Outcome {
-    pub number: u64,
-    pub id: u64,
-    pub tracker: Tracker,
-}
-
-// What `to_conf_state` answers.
-#[derive(Clone, Copy)]
-pub struct Written {
-    pub number: u64,
-    pub id: u64,
-    pub conf_state: ConfState,
-}
-
-// The number and id alone.
-#[derive(Clone, Copy)]
-pub struct Verdict {
-    pub number: u64,
-    pub id: u64,
 }
 
 impl Configuration {

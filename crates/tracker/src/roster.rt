@@ -3,19 +3,14 @@ ghost use Rattle.std.specs.Prelude.{◌≡◌, [], ◌∷◌, OnOk, is_ok, if◌
 ghost use Rattle.rules.specs.State.{ids, add};
 ghost use Rattle.rules.specs.Apply.{room, enrol, track, untrack};
 ghost use Rattle.tracker.specs.Bridge.{entry_of, entries_of};
-ghost use Rattle.tracker.specs.Enrol.{said};
+ghost use Rattle.tracker.specs.Refusals.{said};
 
+use crate::refusal::Refusal;
 use crate::{MapChange, MapChangeType, Tracker};
 use idset::IdSet;
 use idset::slices::{insert_at, remove_at};
 use progress::Progress;
 use std::marker::Model;
-
-// The id for which there is no room.
-#[derive(Clone, Copy)]
-pub struct NoRoom {
-    pub id: u64,
-}
 
 #[derive(Drop)]
 pub struct Roster {
@@ -40,7 +35,7 @@ impl Model for Roster {
 
 impl Roster {
     // Takes the entries in order; stops where there is no room.
-    pub fn enrol(&mut self, changes: &[MapChange], fresh: Progress) -> Result<(), NoRoom>
+    pub fn enrol(&mut self, changes: &[MapChange], fresh: Progress) -> Result<(), Refusal>
         ensures value { said result ≡ room (entries_of changes.now) (ids self.old) }
         ensures after { OnOk result (self.new ≡ enrol fresh (entries_of changes.now) self.old) }
     {
@@ -53,7 +48,7 @@ impl Roster {
     // One entry: Add writes a fresh record over any old one; Remove of an absent id does nothing.
     #[inline(never)]
     #[tactic(auto, unfolding(rules::specs::Apply::room, rules::specs::Apply::enrol))]
-    fn enter(&mut self, change: MapChange, fresh: Progress) -> Result<(), NoRoom>
+    fn enter(&mut self, change: MapChange, fresh: Progress) -> Result<(), Refusal>
         ensures value { said result ≡ room (entry_of change ∷ []) (ids self.old) }
         ensures after { self.new ≡ (if is_ok result then enrol fresh (entry_of change ∷ []) self.old else self.old) }
     {
@@ -67,33 +62,31 @@ impl Roster {
     }
 
     // `id` tracked with `record`, over any old one; no room where 64 others are.
-    fn track(&mut self, id: u64, record: Progress) -> Result<(), NoRoom>
+    fn track(&mut self, id: u64, record: Progress) -> Result<(), Refusal>
         ensures value { said result ≡ room (add id ∷ []) (ids self.old) }
         ensures after { self.new ≡ (if is_ok result then track id «record» self.old else self.old) }
     {
-        let len = self.ids.len;
-        let at = idset::seek(&self.ids.ids, len, 0, id);
-        if idset::stands_at(&self.ids.ids, len, at, id) {
+        let at = idset::seek(self.ids.as_slice(), 0, id);
+        if idset::stands_at(self.ids.as_slice(), at, id) {
             self.records[at] = record;
             return Ok(());
         }
-        if Tracker::CAPACITY <= len {
-            return Err(NoRoom { id });
+        match self.ids.insert(id) {
+            Ok(_) => {
+                insert_at(&mut self.records, at, record);
+                Ok(())
+            }
+            Err(_) => Err(Refusal::NoRoom(id)),
         }
-        insert_at(&mut self.records, at, record);
-        self.ids = self.ids.insert(id).set;
-        Ok(())
     }
 
     // `id` no longer tracked.
     fn untrack(&mut self, id: u64)
         ensures { self.new ≡ untrack id self.old }
     {
-        let len = self.ids.len;
-        let at = idset::seek(&self.ids.ids, len, 0, id);
-        if idset::stands_at(&self.ids.ids, len, at, id) {
+        let at = idset::seek(self.ids.as_slice(), 0, id);
+        if self.ids.remove(id) {
             remove_at(&mut self.records, at, Progress::unused());
-            self.ids = self.ids.remove(id).set;
         }
     }
 }

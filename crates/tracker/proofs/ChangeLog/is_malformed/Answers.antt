@@ -20,7 +20,7 @@ returns-then-self-gt-CAPACITY c = search (rules, log_over, log_sized)
 
 pub returns-else-self-gt-CAPACITY : goal.returns-else-self-gt-CAPACITY
 returns-else-self-gt-CAPACITY c =
-    let e : c.any.result ≡ list_any (λ y. not (is_blank y)) (drop c.args.self.count c.args.self.entries) =
+    let e : c.any.result ≡ list_any (λ y. not (is_blank y)) (drop c.args.self.now.count c.args.self.now.entries) =
     any_from_yields_List (λ y. not (is_blank y)) _ _ c.any.result c.any.ensures.ran
-    (YieldsList-from_skip c.args.self.count (YieldsList-from_slice c.args.self.entries cc) c.skip.ensures.count) (λ x b q k. search (rules, tests)) in
-    log-rest c.args.self (log_sized c.args.self c.well_formed.0) c.if-self-gt-CAPACITY.false c.any.result (e ∙ any_fails blank-each _)
+    (YieldsList-from_skip c.args.self.now.count (YieldsList-from_slice c.args.self.now.entries cc) c.skip.ensures.count) (λ x b q k. search (rules, tests)) in
+    log-rest c.args.self.now (search (rules, log_sized)) c.if-self-gt-CAPACITY.false c.any.result (e ∙ any_fails blank-each _)

@@ -24,12 +24,12 @@ returns-then-is_malformed-2 c = search rules
 pub returns-else-is_malformed-2 : goal.returns-else-is_malformed-2
 unfolding tracker_well_formed
 returns-else-is_malformed-2 c =
-    let e : c.any.result ≡ list_any (λ y. not (is_unused y)) (drop c.args.self.ids.len c.args.self.records) =
+    let e : c.any.result ≡ list_any (λ y. not (is_unused y)) (drop c.args.self.now.ids.len c.args.self.now.records) =
     any_from_yields_List (λ y. not (is_unused y)) _ _ c.any.result c.any.ensures.ran
-    (YieldsList-from_skip c.args.self.ids.len (YieldsList-from_slice c.args.self.records cc) c.skip.ensures.count) (λ x b q k. search (rules, tests)) in
+    (YieldsList-from_skip c.args.self.now.ids.len (YieldsList-from_slice c.args.self.now.records cc) c.skip.ensures.count) (λ x b q k. search (rules, tests)) in
     elim c.if-is_malformed.branch [
       | then-is_malformed w ↦ cc
       | else-is_malformed w ↦
-          tracker-rest c.args.self _ c.is_malformed.ensures w.if-is_malformed.false _ w.is_malformed-else-is_malformed.ensures (sym w.value-is ∙ c.if-is_malformed-2.false)
-          (records_sized c.args.self c.well_formed.0) c.any.result (e ∙ any_fails unused_each _)
+          tracker-rest c.args.self.now _ c.is_malformed.ensures w.if-is_malformed.false _ w.is_malformed-else-is_malformed.ensures (sym w.value-is ∙ c.if-is_malformed-2.false)
+          (search (rules, records_sized)) c.any.result (e ∙ any_fails unused_each _)
     ]

@@ -1,10 +1,13 @@
 -- `enrol`: what is left of the entries answers for all of them. Assumes nothing.
 use borrow.Author.Rules.{rules}
+use Rattle.std.proofs.lemmas.Result.{err_from_is_err_and}
 use Rattle.tracker.proofs.EnrolLog.{enrol-stop, enrol-next, enrol-says, enrol-makes}
 use Rattle.tracker.proofs.roster.Roster.enrol.Goals as goal
 
 pub returns-in_err-enter-clause-value : goal.returns-in_err-enter-clause-value
-returns-in_err-enter-clause-value c = search (rules, enrol-stop)
+returns-in_err-enter-clause-value c =
+    let p = err_from_is_err_and c.from_residual.result c.from_residual.ensures.1 in
+    rw (p.1, p.2) (enrol-stop c.loop-change.invariant c.loop-change-test.true _ _ _ c.in_err-enter.ensures.value)
 
 pub loop-change-preserved : goal.loop-change-preserved
 loop-change-preserved c = enrol-next c.loop-change.invariant c.loop-change-test.true _ c.in_ok-enter.ensures.value _ c.in_ok-enter.ensures.after
