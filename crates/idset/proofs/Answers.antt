@@ -1,38 +1,19 @@
 -- What each branch of the methods answers, of any set with 64 places, malformed ones included. Assumes nothing.
 use Prim.Native.Nat.{ℕ, zero, suc, ◌+◌, ◌-◌, ◌≤◌, ◌<◌}
 use mathlib.Core.Path.{◌≡◌, refl, ◌∙◌, sym}
-use mathlib.Core.Bool.{Bool, true, false, not, cond}
+use mathlib.Core.Bool.{Bool, true, false, cond}
 use mathlib.Core.List.{List, [], ◌∷◌}
 use native.Mathlib.Omega.{arith}
-use borrow.Author.Tests.{eq-eqb, le-leb, lt-leb, ne_eqb}
+use borrow.Author.Tests.{le-leb, lt-leb}
 use lib.Dec.{eqb, eqb-suc-zero}
 use lib.ListN.{length, take, drop}
 use Rattle.std.specs.Prelude.{Option, None, Some}
-use Rattle.rules.specs.Ids.{memb, ascending, is_empty}
-use Rattle.idset.specs.Places.{zeros, rank, place_of, place_in, insert_at, remove_at}
-use Rattle.idset.specs.Set.{held, well_formed, insert_of, remove_of, Inserted, Removed}
+use Rattle.rules.specs.Ids.{memb, is_empty}
+use Rattle.idset.specs.Places.{rank, place_of, place_in, insert_at, remove_at}
+use Rattle.idset.specs.Set.{held, insert_of, remove_of, Inserted, Removed}
 use Rattle.idset.specs.declared.IdSet.{IdSet}
 
--- ** malformed_in, is_empty
-
-module _ (l : List ℕ) (n : ℕ) where
-  pub form_other : (length l ≡ 64 → ⊥) → true ≡ not (well_formed (record { ids = l; len = n }))
-  unfolding well_formed
-  form_other h = rw (ne_eqb _ _ h)
-
-  module _ (long : length l ≡ 64) where
-    pub form_over : 64 < n → true ≡ not (well_formed (record { ids = l; len = n }))
-    unfolding well_formed
-    form_over h = rw (eq-eqb _ _ long, lt-leb _ _ h)
-
-    module _ (h : n ≤ 64) (b : Bool) (e : b ≡ ascending (take n l)) where
-      pub form_unsorted : b ≡ false → true ≡ not (well_formed (record { ids = l; len = n }))
-      unfolding well_formed
-      form_unsorted f = rw (eq-eqb _ _ long, le-leb _ _ h, ← e, f)
-
-      pub form_zeros : b ≡ true → (r : Bool) → r ≡ zeros (drop n l) → not r ≡ not (well_formed (record { ids = l; len = n }))
-      unfolding well_formed
-      form_zeros f r z = rw (eq-eqb _ _ long, le-leb _ _ h, ← e, f, z)
+-- ** is_empty
 
 module _ (s : IdSet) (long : length s.ids ≡ 64) where
   pub empty_none : eqb s.len 0 ≡ is_empty (held s)

@@ -5,7 +5,6 @@ use Rattle.rules.specs.Ids.{memb, ascending}
 use Rattle.idset.specs.Places.{zeros, rank, place_of, insert_at, remove_at, merge}
 use Rattle.idset.specs.declared.IdSet.{IdSet}
 use Rattle.idset.specs.declared.Full.{Full}
-use Rattle.idset.specs.declared.United.{United}
 
 -- ** The bridge
 
@@ -33,6 +32,10 @@ pub record Removed : Type 0 where
   pub set : IdSet
   pub changed : Bool
 
+pub record United : Type 0 where
+  pub set : IdSet
+  pub full : Bool
+
 -- an answer beside the set that is left
 abbrev pub inserted : IdSet → Result Bool Full → Inserted
 inserted s (Ok changed) = record { set = s; changed = changed; full = false }
@@ -40,6 +43,11 @@ inserted s (Err f) = record { set = s; changed = false; full = true }
 
 abbrev pub removed : IdSet → Bool → Removed
 removed s changed = record { set = s; changed = changed }
+
+-- an answer beside the set that was asked
+abbrev pub united : IdSet → Result IdSet Full → United
+united s (Ok t) = record { set = t; full = false }
+united s (Err f) = record { set = s; full = true }
 
 -- ** The operations
 
