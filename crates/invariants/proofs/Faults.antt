@@ -5,11 +5,12 @@ use mathlib.Core.Path.{◌≡◌, refl, ap, ◌∙◌, sym}
 use mathlib.Core.Bool.{Bool, true, false, cond, true≢false}
 use borrow.Author.Tests.{eqb-false}
 use lib.Dec.{eqb, ltb}
+use Rattle.std.specs.Prelude.{Option, Some, None}
 use Rattle.rules.specs.Answers as rules
 use Rattle.rules.specs.Answers.{ok, fault, refuse, ◌▸◌, passes}
 use Rattle.tracker.specs.Apply.{verdict_of, number_of}
-use Rattle.tracker.specs.declared.Verdict.{Verdict}
-use Rattle.invariants.specs.Walk.{First, nobody, first, fault_at, sooner}
+use Rattle.tracker.specs.Apply.{Verdict}
+use Rattle.invariants.specs.Walk.{fault_at, sooner}
 
 -- ** A verdict and its struct
 
@@ -17,10 +18,10 @@ use Rattle.invariants.specs.Walk.{First, nobody, first, fault_at, sooner}
 unfoldable pub Numbered : rules.Verdict → Type 0
 Numbered v = eqb (number_of v) 0 ≡ passes v
 
-pub numbered-at : (f : First) (n : ℕ) → eqb n 0 ≡ false → Numbered (fault_at f n)
+pub numbered-at : (f : Option ℕ) (n : ℕ) → eqb n 0 ≡ false → Numbered (fault_at f n)
 unfolding Numbered
-numbered-at nobody n h = refl
-numbered-at (first x) n h = h
+numbered-at None n h = refl
+numbered-at (Some x) n h = h
 
 pub numbered-refuse : (b : Bool) (n x : ℕ) → eqb n 0 ≡ false → Numbered (refuse b n x)
 unfolding Numbered
@@ -41,7 +42,7 @@ numbered-sooner (fault n x) (fault m y) a b = go (ltb y x)
     go false = a
 
 -- the sooner of two walks' faults
-pub two_numbered : (f g : First) (n m : ℕ) → eqb n 0 ≡ false → eqb m 0 ≡ false → Numbered (sooner (fault_at f n) (fault_at g m))
+pub two_numbered : (f g : Option ℕ) (n m : ℕ) → eqb n 0 ≡ false → eqb m 0 ≡ false → Numbered (sooner (fault_at f n) (fault_at g m))
 two_numbered f g n m h k = numbered-sooner (fault_at f n) (fault_at g m) (numbered-at f n h) (numbered-at g m k)
 
 -- a fault has another number than 0, and what passes has 0

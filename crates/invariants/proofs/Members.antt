@@ -20,8 +20,8 @@ use Rattle.tracker.specs.Bridge.{conf_of}
 use Rattle.tracker.specs.Form.{conf_well_formed}
 use Rattle.tracker.specs.declared.Configuration.{Configuration}
 use Rattle.tracker.proofs.Bridge.{Sets, conf-sets}
-use Rattle.std.specs.Prelude.{is_none}
-use Rattle.invariants.specs.Walk.{First, nobody, first, first_in, first_out, found_of, fault_at}
+use Rattle.std.specs.Prelude.{Option, Some, None, is_none}
+use Rattle.invariants.specs.Walk.{first_in, first_out, fault_at}
 use Rattle.invariants.specs.Check.{are_members, members_in}
 use Rattle.invariants.proofs.Walk.{walk_in, walk_out, walk_each}
 
@@ -40,12 +40,12 @@ module _ (xs ys : List ℕ) (a : ascending xs ≡ true) (b : ascending ys ≡ tr
   none_missing : each missing xs ≡ ok → xs ≡ ys
   none_missing e = ascending_ext xs ys a b (λ x. both_ways (memb x xs) (memb x ys) (λ m. not-false (memb x ys) (refuse-ok (not (memb x ys)) 1 x (each-ok missing xs e x m))) (h x))
 
-  pub walk_same : is_none (found_of (first_out xs ys)) ≡ same_ids xs ys
+  pub walk_same : is_none ((first_out xs ys)) ≡ same_ids xs ys
   walk_same = go (first_out xs ys) (walk_each walk_out 1 ys b xs a)
     where
-      go : (f : First) → fault_at f 1 ≡ each missing xs → is_none (found_of f) ≡ same_ids xs ys
-      go nobody e = sym (ap (same_ids xs) (sym (none_missing (sym e))) ∙ ids-same xs)
-      go (first z) e = here (same_ids xs ys) refl
+      go : (f : Option ℕ) → fault_at f 1 ≡ each missing xs → is_none (f) ≡ same_ids xs ys
+      go None e = sym (ap (same_ids xs) (sym (none_missing (sym e))) ∙ ids-same xs)
+      go (Some z) e = here (same_ids xs ys) refl
         where
           here : (c : Bool) → same_ids xs ys ≡ c → false ≡ c
           here true q =
@@ -54,15 +54,15 @@ module _ (xs ys : List ℕ) (a : ascending xs ≡ true) (b : ascending ys ≡ tr
           here false q = refl
 
 -- the walk along xs meets none in ys where the two are apart
-pub walk_apart : (xs ys : List ℕ) → ascending xs ≡ true → ascending ys ≡ true → is_none (found_of (first_in xs ys)) ≡ apart xs ys
+pub walk_apart : (xs ys : List ℕ) → ascending xs ≡ true → ascending ys ≡ true → is_none ((first_in xs ys)) ≡ apart xs ys
 walk_apart xs ys a b = go (first_in xs ys) (walk_each walk_in 1 ys b xs a)
   where
     shared : ℕ → Verdict
     shared x = refuse (memb x ys) 1 x
 
-    go : (f : First) → fault_at f 1 ≡ each shared xs → is_none (found_of f) ≡ apart xs ys
-    go nobody e = sym (apart_of xs ys (λ x m. refuse-ok (memb x ys) 1 x (each-ok shared xs (sym e) x m)))
-    go (first z) e = here (apart xs ys) refl
+    go : (f : Option ℕ) → fault_at f 1 ≡ each shared xs → is_none (f) ≡ apart xs ys
+    go None e = sym (apart_of xs ys (λ x m. refuse-ok (memb x ys) 1 x (each-ok shared xs (sym e) x m)))
+    go (Some z) e = here (apart xs ys) refl
       where
         here : (c : Bool) → apart xs ys ≡ c → false ≡ c
         here true q =

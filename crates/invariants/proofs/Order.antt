@@ -16,7 +16,7 @@ use Rattle.tracker.specs.Apply.{verdict_of}
 use Rattle.tracker.specs.Bridge.{conf_of, state_of}
 use Rattle.tracker.specs.Form.{tracker_well_formed}
 use Rattle.tracker.specs.declared.Tracker.{Tracker}
-use Rattle.tracker.specs.declared.Verdict.{Verdict}
+use Rattle.tracker.specs.Apply.{Verdict}
 use Rattle.tracker.proofs.Bridge.{Formed, Sets, conf-formed, conf-sets, tracked-ids, tracker_formed, tracker_parts}
 use Rattle.invariants.specs.Check.{are_apart, are_members, check_of, check_walk, in_order_of}
 use Rattle.invariants.proofs.Faults.{Numbered}

@@ -8,7 +8,7 @@ use Rattle.rules.specs.Answers.{refuse, ◌▸◌}
 use Rattle.rules.specs.Ids.{is_empty}
 use Rattle.rules.specs.State.{Conf}
 use Rattle.tracker.specs.Apply.{verdict_of}
-use Rattle.tracker.specs.declared.Verdict.{Verdict}
+use Rattle.tracker.specs.Apply.{Verdict}
 use Rattle.invariants.specs.Walk.{first_out, first_in, fault_at, sooner}
 use Rattle.invariants.specs.Check.{voters_walk, learners_walk, staged_walk, single_walk, rest_walk, check_walk}
 use Rattle.invariants.proofs.Faults.{Numbered, numbered-at, numbered-refuse, numbered-sooner, numbered_then, two_numbered, then_stops, then_goes}

@@ -6,7 +6,7 @@ use mathlib.Core.Bool.{Bool, true, false, not, true≢false, beq}
 use mathlib.Core.List.{List, [], ◌∷◌}
 use native.Mathlib.Omega.{arith}
 use borrow.Author.Tests.{not-true, not-false, ltb-true, ltb-false}
-use Rattle.std.specs.Prelude.{Some, None}
+use Rattle.std.specs.Prelude.{Option, Some, None}
 use lib.Dec.{eqb, ltb}
 use lib.ListN.{length, drop, get_or, drop_of_length-le}
 use lib.Seq.{drop-drop, drop-cons}
@@ -16,12 +16,12 @@ use Rattle.rules.specs.Ids.{above, ascending, memb}
 use Rattle.rules.proofs.Sets.{above_none, memb_head, or-true, rising_tail}
 use Rattle.idset.specs.Places.{rank, first_is}
 use Rattle.idset.proofs.Cursor.{found_at, still_ahead}
-use Rattle.invariants.specs.Walk.{First, nobody, first, first_out, first_in, first_where, found_of, fault_at, past}
+use Rattle.invariants.specs.Walk.{first_out, first_in, first_where, fault_at, past}
 
 -- a walk that halts at the first of xs that it meets in ys, where met is true, or does not meet there, where it is false
-pub record Walk (met : Bool) (walk : List ℕ → List ℕ → First) : Type 0 where
-  pub none : (ys : List ℕ) → walk [] ys ≡ nobody
-  pub halt : (x : ℕ) (xs ys : List ℕ) → first_is x (past x ys) ≡ met → walk (x ∷ xs) ys ≡ first x
+pub record Walk (met : Bool) (walk : List ℕ → List ℕ → Option ℕ) : Type 0 where
+  pub none : (ys : List ℕ) → walk [] ys ≡ None
+  pub halt : (x : ℕ) (xs ys : List ℕ) → first_is x (past x ys) ≡ met → walk (x ∷ xs) ys ≡ Some x
   pub pass : (x : ℕ) (xs ys : List ℕ) → first_is x (past x ys) ≡ not met → walk (x ∷ xs) ys ≡ walk xs (past x ys)
 
 pub walk_out : Walk false first_out
@@ -59,14 +59,14 @@ module _ {met : Bool} {xs ys : List ℕ} {j i : ℕ} (s : Walking met xs ys j i)
   w : Walk met (first_where met)
   w = walk_where met
 
-  pub walk_end : length xs ≤ i → None ≡ found_of (first_where met xs ys)
+  pub walk_end : length xs ≤ i → None ≡ (first_where met xs ys)
   walk_end h = rw (s.same, drop_of_length-le xs h, w.none)
 
   module _ (k : i < length xs) (r : ℕ) (e : r ≡ j + rank (get_or xs i 0) (drop j ys)) (t : Bool) (q : t ≡ first_is (get_or xs i 0) (drop r ys)) where
     there : drop r ys ≡ past (get_or xs i 0) (drop j ys)
     there = rw e (sym (drop-drop (rank (get_or xs i 0) (drop j ys)) j ys))
 
-    pub walk_halt : beq t met ≡ true → Some (get_or xs i 0) ≡ found_of (first_where met xs ys)
+    pub walk_halt : beq t met ≡ true → Some (get_or xs i 0) ≡ (first_where met xs ys)
     walk_halt g = rw (s.same, drop-cons xs i 0 k, w.halt (get_or xs i 0) (drop (suc i) xs) (drop j ys) (ap (first_is (get_or xs i 0)) (sym there) ∙ sym q ∙ told_same t met g))
 
     pub walk_next : beq t met ≡ false → Walking met xs ys r (i + 1)
@@ -97,7 +97,7 @@ memb-later p x xs a m = go (ltb p x) refl
     go true e = ltb-true p x e
     go false e = absurd (true≢false (sym m ∙ above_none x p xs a (ltb-false p x e)))
 
-module _ {met : Bool} {walk : List ℕ → List ℕ → First} (w : Walk met walk) (n : ℕ) (ys : List ℕ) (b : ascending ys ≡ true) where
+module _ {met : Bool} {walk : List ℕ → List ℕ → Option ℕ} (w : Walk met walk) (n : ℕ) (ys : List ℕ) (b : ascending ys ≡ true) where
   -- with the cursor at i, before which stands none of xs
   walk_from : (xs : List ℕ) → ascending xs ≡ true → (i : ℕ) → ((z : ℕ) → memb z xs ≡ true → memb z (drop i ys) ≡ memb z ys)
       → fault_at (walk xs (drop i ys)) n ≡ each (λ x. refuse (asked met (memb x ys)) n x) xs

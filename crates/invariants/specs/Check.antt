@@ -12,8 +12,8 @@ use Rattle.idset.specs.Set.{held, union_of}
 use Rattle.idset.specs.declared.IdSet.{IdSet}
 use Rattle.tracker.specs.declared.Configuration.{Configuration}
 use Rattle.tracker.specs.declared.Tracker.{Tracker}
-use Rattle.tracker.specs.declared.Verdict.{Verdict}
-use Rattle.invariants.specs.Walk.{first_out, first_in, found_of, fault_at, sooner}
+use Rattle.tracker.specs.Apply.{Verdict}
+use Rattle.invariants.specs.Walk.{first_out, first_in, fault_at, sooner}
 
 -- The tracked ids first, then the sets that are asked.
 
@@ -51,11 +51,11 @@ members_in c = (union_of (union_of c.incoming c.outgoing).set (union_of c.learne
 
 -- a walk along the members meets each tracked id
 abbrev pub are_members : List ℕ → Configuration → Bool
-are_members tracked c = is_none (found_of (first_out tracked (held (members_in c))))
+are_members tracked c = is_none ((first_out tracked (held (members_in c))))
 
 -- a walk along the incoming voters meets no staged id
 abbrev pub are_apart : Conf → Bool
-are_apart c = is_none (found_of (first_in c.staged c.incoming))
+are_apart c = is_none ((first_in c.staged c.incoming))
 
 -- the check of any state, through the bridge: 1 where it is malformed
 unfoldable pub check_of : Tracker → Verdict

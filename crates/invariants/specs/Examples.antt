@@ -1,6 +1,6 @@
 -- The definitions tried on small configurations. Above each line stands what it rules out: a program that would give another value there.
 -- Assumes nothing.
-use Rattle.std.specs.Prelude.{ℕ, ◌≡◌, refl, true, false, [], ◌∷◌, take}
+use Rattle.std.specs.Prelude.{ℕ, ◌≡◌, refl, true, false, [], ◌∷◌, take, Some, None}
 use Rattle.rules.specs.Ids.{apart, memb, above, ascending, insert_id, insert_all, same_ids}
 use Rattle.rules.specs.State.{State, ids, conf_formed, formed}
 use Rattle.rules.specs.Answers.{ok, fault, each}
@@ -12,9 +12,9 @@ use Rattle.idset.specs.Set.{set_of, well_formed}
 use Rattle.tracker.specs.Bridge.{conf_of, configuration_of, tracker_of}
 use Rattle.tracker.specs.Form.{conf_well_formed, tracker_well_formed}
 use Rattle.tracker.specs.Apply.{verdict_of}
-use Rattle.tracker.specs.declared.Verdict.{Verdict}
+use Rattle.tracker.specs.Apply.{Verdict}
 use Rattle.tracker.proofs.Bridge.{state-back, tracker_well}
-use Rattle.invariants.specs.Walk.{first_out, first_in, nobody, first}
+use Rattle.invariants.specs.Walk.{first_out, first_in}
 use Rattle.invariants.specs.Check.{voters_walk, learners_walk, rest_walk, check_walk, check_of, in_order_of}
 
 -- `joint` that asks incoming; that is negated
@@ -24,19 +24,19 @@ joint_or_not = (refl, refl)
 
 pub walked :
     -- without `among`, a `first_where` that gives the last
-    (first_out (1 ∷ 2 ∷ 3 ∷ []) (2 ∷ []) ≡ first 1)
+    (first_out (1 ∷ 2 ∷ 3 ∷ []) (2 ∷ []) ≡ Some 1)
     -- that finds something where all are met
-    × (first_out (1 ∷ 3 ∷ []) (1 ∷ 2 ∷ 3 ∷ []) ≡ nobody)
+    × (first_out (1 ∷ 3 ∷ []) (1 ∷ 2 ∷ 3 ∷ []) ≡ None)
     -- that begins anew at each id: on lists that do not ascend the walk does not meet 1
-    × (first_out (5 ∷ 1 ∷ []) (1 ∷ 5 ∷ []) ≡ first 1)
+    × (first_out (5 ∷ 1 ∷ []) (1 ∷ 5 ∷ []) ≡ Some 1)
     -- that looks past `n`
-    × (first_out (take 1 (2 ∷ [])) (take 1 (1 ∷ 2 ∷ [])) ≡ first 2)
+    × (first_out (take 1 (2 ∷ [])) (take 1 (1 ∷ 2 ∷ [])) ≡ Some 2)
     -- with `among`, a `first_where` that gives the last
-    × (first_in (1 ∷ 2 ∷ 3 ∷ []) (2 ∷ 3 ∷ []) ≡ first 2)
+    × (first_in (1 ∷ 2 ∷ 3 ∷ []) (2 ∷ 3 ∷ []) ≡ Some 2)
     -- that begins anew at each id
-    × (first_in (5 ∷ 1 ∷ []) (1 ∷ 6 ∷ []) ≡ nobody)
+    × (first_in (5 ∷ 1 ∷ []) (1 ∷ 6 ∷ []) ≡ None)
     -- that looks past `m`
-    × (first_in (take 1 (1 ∷ 2 ∷ [])) (take 1 (2 ∷ [])) ≡ nobody)
+    × (first_in (take 1 (1 ∷ 2 ∷ [])) (take 1 (2 ∷ [])) ≡ None)
 unfolding first_out first_in rank first_is
 walked = (refl, refl, refl, refl, refl, refl, refl)
 
