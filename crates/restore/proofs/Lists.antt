@@ -80,7 +80,7 @@ In c cs = Reads (ids_in c) (kinds_in c) cs
 one_more : {c r : Changes} {l : IdList} {cs : List Change} (k : ℕ) → k ≤ 2 → In c cs → Appended c l k r → In r (cs ++ all (kind_of k) (entries_in l))
 one_more {c} {r} {l} {cs} k h i a = rw (a.ids, a.kinds) (reads_append i (reads_all k h (entries_in l)))
 
-pub few-more : {c r : Changes} {l : IdList} {k : ℕ} → Appended c l k r → l.len ≤ 64 → r.len ≤ c.len + 64
+pub few-more : {c r : Changes} {l : IdList} {k : ℕ} → Appended c l k r → length l.ids ≡ 64 → r.len ≤ c.len + 64
 few-more {c} {r} {l} a h = omega (arith, a.count, length-take l.len l.ids)
 
 -- the four lists one behind the other
@@ -109,7 +109,7 @@ pub record Appending (c₀ : Changes) (l : IdList) (k : ℕ) (c : Changes) (left
   pub ids : ids_in c ++ left ≡ ids_in c₀ ++ entries_in l
   pub kinds : kinds_in c ++ replicate (length left) k ≡ kinds_in c₀ ++ replicate (length (entries_in l)) k
 
-pub appending_start : (c : Changes) (l : IdList) (k : ℕ) {left : List ℕ} → l.len ≤ 64 → c.len ≤ 192 → left ≡ entries_in l → Appending c l k c left
+pub appending_start : (c : Changes) (l : IdList) (k : ℕ) {left : List ℕ} → length l.ids ≡ 64 → c.len ≤ 192 → left ≡ entries_in l → Appending c l k c left
 appending_start c l k h g e = record { room = rw e (omega (arith, length-take l.len l.ids)); count = rw e; ids = rw e; kinds = rw e }
 
 module _ {c₀ c : Changes} {l : IdList} {k : ℕ} {left : List ℕ} (s : Appending c₀ l k c left) where

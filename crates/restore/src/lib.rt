@@ -95,7 +95,7 @@ fn restore_single(t: Tracker, cs: ConfState, next_idx: u64) -> Outcome
 
 // If there are outgoing voters, first add them one by one so that the (non-joint) config has them all; then enter.
 fn restore_joint(t: Tracker, cs: ConfState, next_idx: u64) -> Outcome
-    requires { (tracker_well_formed t ≡ true) × (too_long cs ≡ false) }
+    requires { tracker_well_formed t ≡ true }
     ensures { result ≡ steps_of t next_idx (joint_steps cs) }
 {
     let outgoing = one_by_one(t, cs.voters_outgoing, Kind::AddNode, next_idx);
@@ -107,7 +107,7 @@ fn restore_joint(t: Tracker, cs: ConfState, next_idx: u64) -> Outcome
 
 // One `enter_joint` with the changes that lead from the outgoing voters to the rest, and the flag.
 fn enter(t: Tracker, cs: ConfState, next_idx: u64) -> Outcome
-    requires { (tracker_well_formed t ≡ true) × (too_long cs ≡ false) }
+    requires { tracker_well_formed t ≡ true }
     ensures { result ≡ steps_of t next_idx (enter_step cs.auto_leave (entered cs) ∷ []) }
 {
     let incoming = to_conf_change_single(cs);
@@ -166,7 +166,6 @@ pub fn apply_answer(t: Tracker, a: Answer, next_idx: u64) -> Outcome
 // Translates a conf state into the operations that, when applied to the config made of the outgoing voters, represent it: remove each outgoing,
 // add each voter, add-learner each learner, then each staged.
 fn to_conf_change_single(cs: ConfState) -> Changes
-    requires { too_long cs ≡ false }
     ensures { Listed result (entered cs) }
 {
     let mut list = Changes::new();
@@ -201,7 +200,7 @@ impl Changes {
 
     // A change of this kind for each id of `added` more.
     fn append(&mut self, added: &IdList, kind: Kind)
-        requires { (added.now.len ≤ 64) × (self.old.len ≤ 192) }
+        requires { self.old.len ≤ 192 }
         ensures { Appended self.old added.now (number_in kind) self.new }
     {
         for id in added.ids.iter().take(added.len) {
