@@ -1,6 +1,6 @@
 -- What each branch of `apply_conf` answers and leaves: 16 where there is no room, else what the log makes of the tracked. Assumes nothing.
 use Prim.Native.Nat.{ℕ}
-use mathlib.Core.Path.{◌≡◌, ap, ◌∙◌, sym}
+use mathlib.Core.Path.{◌≡◌, ◌∙◌, sym}
 use mathlib.Core.Bool.{true}
 use mathlib.Core.List.{List}
 use lib.ListN.{take}
@@ -13,7 +13,7 @@ use Rattle.idset.specs.Set.{held}
 use Rattle.idset.specs.declared.IdSet.{IdSet}
 use Rattle.tracker.specs.Bridge.{conf_of, state_of, peers_of, log_of, entries_of}
 use Rattle.tracker.specs.Form.{conf_well_formed, tracker_well_formed, log_well_formed}
-use Rattle.tracker.specs.Apply.{apply_of, verdict_in, refused_of, outcome_of}
+use Rattle.tracker.specs.Apply.{apply_of, refused_of, outcome_of}
 use Rattle.tracker.specs.Enrol.{Rostered}
 use Rattle.tracker.specs.declared.Configuration.{Configuration}
 use Rattle.tracker.specs.declared.MapChange.{MapChange}
