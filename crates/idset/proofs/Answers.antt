@@ -7,6 +7,7 @@ use native.Mathlib.Omega.{arith}
 use borrow.Author.Tests.{le-leb, lt-leb}
 use lib.Dec.{eqb, eqb-suc-zero}
 use lib.ListN.{length, take, drop}
+use Rattle.std.proofs.lemmas.List.{length-take}
 use Rattle.std.specs.Prelude.{Option, None, Some}
 use Rattle.rules.specs.Ids.{memb, is_empty}
 use Rattle.idset.specs.Places.{rank, place_of, place_in, insert_at, remove_at}
@@ -44,6 +45,10 @@ module _ (s : IdSet) (x : ℕ) (b : Bool) (e : b ≡ memb x (held s)) where
         rw (← e, f, lt-leb _ _ h, i, p)
 
 -- ** remove
+
+-- a place within the first n is one of all
+pub in_take : (n : ℕ) (l : List ℕ) (at : ℕ) → at < length (take n l) → at < length l
+in_take n l at h = omega (arith, h, length-take n l)
 
 module _ (s : IdSet) (x : ℕ) (r : Option ℕ) (e : r ≡ place_in x (held s)) where
   pub remove_none : r ≡ None → ◌≡◌ {A = Removed} (record { set = s; changed = false }) (remove_of x s)
