@@ -10,9 +10,8 @@ use Rattle.rules.specs.Unplug.{voter_left}
 use Rattle.idset.specs.Set.{held}
 use Rattle.tracker.specs.Bridge.{conf_of}
 use Rattle.tracker.specs.Form.{tracker_well_formed}
-use Rattle.tracker.specs.Apply.{verdict_of}
+use Rattle.tracker.specs.Apply.{Verdict, verdict_of}
 use Rattle.tracker.specs.declared.Tracker.{Tracker}
-use Rattle.tracker.specs.declared.Verdict.{Verdict}
 use Rattle.invariants.specs.Check.{check_walk}
 
 -- 1, then what else is tested
