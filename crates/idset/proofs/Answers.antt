@@ -1,40 +1,21 @@
 -- What each branch of the methods answers, of any set with 64 places, malformed ones included. Assumes nothing.
 use Prim.Native.Nat.{ℕ, zero, suc, ◌+◌, ◌-◌, ◌≤◌, ◌<◌}
-use mathlib.Core.Path.{◌≡◌, refl}
-use mathlib.Core.Bool.{Bool, true, false, not}
+use mathlib.Core.Path.{◌≡◌, refl, ◌∙◌, sym}
+use mathlib.Core.Bool.{Bool, true, false, cond}
 use mathlib.Core.List.{List, [], ◌∷◌}
 use native.Mathlib.Omega.{arith}
-use borrow.Author.Tests.{eq-eqb, le-leb, lt-leb, lt-ltb, le-ltb, ne_eqb}
+use borrow.Author.Tests.{le-leb, lt-leb}
 use lib.Dec.{eqb, eqb-suc-zero}
-use lib.ListN.{length, take, drop, length-take}
-use Rattle.rules.specs.Ids.{memb, ascending, is_empty}
-use Rattle.idset.specs.Places.{zeros, rank, place_of, insert_at, remove_at}
-use Rattle.idset.specs.Set.{held, well_formed, insert_of, remove_of}
+use lib.ListN.{length, take, drop}
+use Rattle.std.specs.Prelude.{Option, None, Some}
+use Rattle.rules.specs.Ids.{memb, is_empty}
+use Rattle.idset.specs.Places.{rank, place_of, place_in, insert_at, remove_at}
+use Rattle.idset.specs.Set.{held, insert_of, remove_of}
 use Rattle.idset.specs.declared.IdSet.{IdSet}
 use Rattle.idset.specs.declared.Inserted.{Inserted}
 use Rattle.idset.specs.declared.Removed.{Removed}
-use Rattle.idset.proofs.Places.{place-memb}
 
--- ** malformed_in, is_empty
-
-module _ (l : List ℕ) (n : ℕ) where
-  pub form_other : (length l ≡ 64 → ⊥) → true ≡ not (well_formed (record { ids = l; len = n }))
-  unfolding well_formed
-  form_other h = rw (ne_eqb _ _ h)
-
-  module _ (long : length l ≡ 64) where
-    pub form_over : 64 < n → true ≡ not (well_formed (record { ids = l; len = n }))
-    unfolding well_formed
-    form_over h = rw (eq-eqb _ _ long, lt-leb _ _ h)
-
-    module _ (h : n ≤ 64) (b : Bool) (e : b ≡ ascending (take n l)) where
-      pub form_unsorted : b ≡ false → true ≡ not (well_formed (record { ids = l; len = n }))
-      unfolding well_formed
-      form_unsorted f = rw (eq-eqb _ _ long, le-leb _ _ h, ← e, f)
-
-      pub form_zeros : b ≡ true → (r : Bool) → r ≡ zeros (drop n l) → not r ≡ not (well_formed (record { ids = l; len = n }))
-      unfolding well_formed
-      form_zeros f r z = rw (eq-eqb _ _ long, le-leb _ _ h, ← e, f, z)
+-- ** is_empty
 
 module _ (s : IdSet) (long : length s.ids ≡ 64) where
   pub empty_none : eqb s.len 0 ≡ is_empty (held s)
@@ -66,20 +47,22 @@ module _ (s : IdSet) (x : ℕ) (b : Bool) (e : b ≡ memb x (held s)) where
 
 -- ** remove
 
-module _ (s : IdSet) (x : ℕ) (long : length s.ids ≡ 64) (at : ℕ) (a : at ≡ place_of x (held s)) where
-  remove_none : length (held s) ≤ at → ◌≡◌ {A = Removed} (record { set = s; changed = false }) (remove_of x s)
+module _ (s : IdSet) (x : ℕ) (r : Option ℕ) (e : r ≡ place_in x (held s)) where
+  pub remove_none : r ≡ None → ◌≡◌ {A = Removed} (record { set = s; changed = false }) (remove_of x s)
   unfolding remove_of
-  remove_none h = rw (place-memb x (held s), ← a, le-ltb _ _ h)
+  remove_none h = go (memb x (held s)) refl
+    where
+      go : (b : Bool) → memb x (held s) ≡ b → ◌≡◌ {A = Removed} (record { set = s; changed = false }) (cond b (record { set = record { ids = remove_at (place_of x (held s)) 0 s.ids; len = s.len - 1 }; changed = true }) (record { set = s; changed = false }))
+      go true m = absurd (let f : None ≡ Some (place_of x (held s)) = sym h ∙ e ∙ rw m in cc)
+      go false m = refl
 
-  pub remove_out : s.len ≤ at → ◌≡◌ {A = Removed} (record { set = s; changed = false }) (remove_of x s)
-  remove_out h = remove_none (omega (arith, length-take s.len s.ids))
-
-  module _ (h : at < s.len) where
-    pub remove_over : 64 ≤ at → ◌≡◌ {A = Removed} (record { set = s; changed = false }) (remove_of x s)
-    remove_over k = remove_none (omega (arith, length-take s.len s.ids))
-
-    pub remove_found : at < 64 → (l : List ℕ) → l ≡ remove_at at 0 s.ids → ◌≡◌ {A = Removed} (record { set = record { ids = l; len = s.len - 1 }; changed = true }) (remove_of x s)
-    unfolding remove_of
-    remove_found k l i =
-        let m : at < length (held s) = omega (arith, length-take s.len s.ids) in
-        rw (place-memb x (held s), ← a, lt-ltb _ _ m, i)
+  pub remove_found : (at : ℕ) → r ≡ Some at → (l : List ℕ) → l ≡ remove_at at 0 s.ids → ◌≡◌ {A = Removed} (record { set = record { ids = l; len = s.len - 1 }; changed = true }) (remove_of x s)
+  unfolding remove_of
+  remove_found at h l i = go (memb x (held s)) refl
+    where
+      go : (b : Bool) → memb x (held s) ≡ b → ◌≡◌ {A = Removed} (record { set = record { ids = l; len = s.len - 1 }; changed = true }) (cond b (record { set = record { ids = remove_at (place_of x (held s)) 0 s.ids; len = s.len - 1 }; changed = true }) (record { set = s; changed = false }))
+      go true m =
+          let f : Some at ≡ Some (place_of x (held s)) = sym h ∙ e ∙ rw m in
+          let g : at ≡ place_of x (held s) = cc in
+          rw (i, g)
+      go false m = absurd (let f : None ≡ Some at = sym (sym h ∙ e ∙ rw m) in cc)

@@ -1,7 +1,8 @@
 pub mod Sizes
+pub mod Words
 pub mod Part
-pub mod Steps
 pub mod Shift
+pub mod Turned
 pub mod Padded
 pub mod Walk
 pub mod Turns

@@ -1,6 +1,6 @@
 -- The definitions tried on small sets, malformed ones among them. Above each line stands what it rules out: a program that would give another
 -- value there. Assumes nothing.
-use Rattle.std.specs.Prelude.{ℕ, ◌+◌, ◌≡◌, refl, true, false, [], ◌∷◌, take, drop, replicate}
+use Rattle.std.specs.Prelude.{ℕ, ◌+◌, ◌≡◌, refl, true, false, [], ◌∷◌, take, drop, replicate, Some, None}
 use Rattle.rules.specs.Ids.{memb, above, ascending, is_empty}
 use Rattle.rules.specs.Cases.{up_to}
 use Rattle.idset.specs.Places.{zeros, rank, place_of, first_is, insert_at, remove_at, merge, two_apart}
@@ -94,11 +94,11 @@ pub walked :
     -- `two_apart` that counts what one side has and the other has not
     × (two_apart false (1 ∷ 5 ∷ []) (1 ∷ 6 ∷ []) ≡ true)
     -- `next_of` that takes the greater first
-    × (next_of (1 ∷ []) (2 ∷ []) 0 0 ≡ next true false 1 1 0)
+    × (next_of (1 ∷ []) (2 ∷ []) 0 0 ≡ Some (next false 1 1 0))
     -- `next_of` that passes only one of two equal ids
-    × (next_of (2 ∷ []) (2 ∷ []) 3 4 ≡ next true true 2 4 5)
+    × (next_of (2 ∷ []) (2 ∷ []) 3 4 ≡ Some (next true 2 4 5))
     -- `next_of` that goes on where nothing is left
-    × (next_of [] [] 3 4 ≡ next false false 0 3 4)
+    × (next_of [] [] 3 4 ≡ None)
 unfolding two_apart next_of
 walked = (refl, refl, refl, refl, refl, refl)
 

@@ -5,9 +5,10 @@ ghost use Rattle.std.specs.Prelude.{◌≡◌};
 ghost use Rattle.progress.specs.Record.{fresh_record, unused_record, is_probe, is_unused};
 
 // The state of the progress.
-#[derive(Clone, Copy)]
+#[derive(Clone, Copy, Debug, Default, PartialEq, Eq)]
 pub enum ProgressState {
     // Whether it's probing.
+    #[default]
     Probe,
     // Whether it's replicating.
     Replicate,
@@ -20,16 +21,12 @@ impl ProgressState {
     pub fn is_default(self) -> bool
         ensures { result ≡ is_probe self }
     {
-        match self {
-            ProgressState::Probe => true,
-            ProgressState::Replicate => false,
-            ProgressState::Snapshot => false,
-        }
+        self == ProgressState::default()
     }
 }
 
 // The progress of catching up from a restart. `max_inflight` stands for `ins`.
-#[derive(Clone, Copy)]
+#[derive(Clone, Copy, Debug, Default, PartialEq, Eq)]
 pub struct Progress {
     pub matched: u64,
     pub next_idx: u64,
@@ -49,35 +46,18 @@ impl Progress {
         ensures { result ≡ fresh_record next_idx max_inflight }
     {
         Progress {
-            matched: 0,
-            next_idx: next_idx,
-            state: ProgressState::Probe,
-            paused: false,
-            pending_snapshot: 0,
-            pending_request_snapshot: 0,
+            next_idx,
             recent_active: true,
-            max_inflight: max_inflight,
-            commit_group_id: 0,
-            committed_index: 0,
+            max_inflight,
+            ..Progress::default()
         }
     }
 
-    // The record of an unused place.
+    // The record of an unused place: the default state, zeros and false.
     pub fn unused() -> Self
         ensures { result ≡ unused_record }
     {
-        Progress {
-            matched: 0,
-            next_idx: 0,
-            state: ProgressState::Probe,
-            paused: false,
-            pending_snapshot: 0,
-            pending_request_snapshot: 0,
-            recent_active: false,
-            max_inflight: 0,
-            commit_group_id: 0,
-            committed_index: 0,
-        }
+        Progress::default()
     }
 
     // Whether it is the record of an unused place.
@@ -85,34 +65,6 @@ impl Progress {
     pub fn is_unused(self) -> bool
         ensures { result ≡ is_unused self }
     {
-        if self.paused {
-            return false;
-        }
-        if self.recent_active {
-            return false;
-        }
-        if self.matched != 0 {
-            return false;
-        }
-        if self.next_idx != 0 {
-            return false;
-        }
-        if self.pending_snapshot != 0 {
-            return false;
-        }
-        if self.pending_request_snapshot != 0 {
-            return false;
-        }
-        if self.max_inflight != 0 {
-            return false;
-        }
-        if self.commit_group_id != 0 {
-            return false;
-        }
-        if self.committed_index != 0 {
-            return false;
-        }
-        let state = self.state;
-        state.is_default()
+        self == Progress::unused()
     }
 }
