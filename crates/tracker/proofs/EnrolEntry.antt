@@ -23,7 +23,7 @@ use Rattle.idset.specs.declared.Removed.{Removed}
 use Rattle.idset.proofs.Places.{rank_le}
 use Rattle.idset.proofs.Bridge.{set-held, length-held, held_rises, insert_fits, remove_formed, found_at}
 use Rattle.tracker.specs.Bridge.{peers_of, records_of, record_places}
-use Rattle.tracker.specs.Enrol.{Rostered}
+use Rattle.tracker.specs.Enrol.{Rostered, Stands, Lacks}
 use Rattle.tracker.proofs.Confs.{set-ids}
 use Rattle.tracker.proofs.Peers.{length_ids, length-records, roster_ids, roster_places, peers_roster, peers-back}
 use Rattle.idset.proofs.Padded.{padded, set_padded, insert_padded, remove_padded}
@@ -66,9 +66,9 @@ pub record Holds (s : IdSet) (rs : List Progress) (qs : List Peer) : Type 0 wher
 holds : {s : IdSet} {rs : List Progress} (qs : List Peer) → R.Set (ids qs) → s ≡ set_of (ids qs) → rs ≡ record_places qs → Holds s rs qs
 holds qs h e p = rw (e, p) (record { rostered = peers_roster qs h; peers = peers-back qs h })
 
--- ** The branches: `at` is where x stands or comes in, and b tells whether it stands there
+-- ** What one entry makes of the peers ps that the arrays hold
 
-module _ {s : IdSet} {rs : List Progress} (o : Rostered s rs) {ps : List Peer} (v : peers_of (held s) rs ≡ ps) (x at : ℕ) (f : at ≡ 0 + rank x (drop 0 (held s))) (b : Bool) (e : b ≡ first_is x (drop at (held s))) where
+module _ {s : IdSet} {rs : List Progress} (o : Rostered s rs) {ps : List Peer} (v : peers_of (held s) rs ≡ ps) (x : ℕ) where
   ids-are : ids ps ≡ held s
   ids-are = ap ids (sym v) ∙ roster_ids o
 
@@ -85,14 +85,20 @@ module _ {s : IdSet} {rs : List Progress} (o : Rostered s rs) {ps : List Peer} (
   count : length (ids ps) ≡ s.len
   count = ap length ids-are ∙ length-held s o.set
 
-  place : at ≡ rank x (ids ps)
-  place = omega (arith, f, ap (rank x) ids-are)
+  -- ** The place that was sought, and whether x stands there
 
-  tells : b ≡ memb x (ids ps)
-  tells = e ∙ ap (λ (n : ℕ). first_is x (drop n (held s))) f ∙ sym (found_at x 0 (held s) (held_rises s o.set)) ∙ ap (memb x) (sym ids-are)
+  module _ (at : ℕ) (f : at ≡ 0 + rank x (drop 0 (held s))) (b : Bool) (e : b ≡ first_is x (drop at (held s))) where
+    place : at ≡ rank x (ids ps)
+    place = omega (arith, f, ap (rank x) ids-are)
 
-  pub at-within : b ≡ true → at < 64
-  at-within t = omega (arith, place, rank-within x (ids ps) q.rises (sym tells ∙ t), q.few)
+    tells : memb x (ids ps) ≡ b
+    tells = ap (memb x) ids-are ∙ found_at x 0 (held s) (held_rises s o.set) ∙ ap (λ (n : ℕ). first_is x (drop n (held s))) (sym f) ∙ sym e
+
+    pub place-stands : b ≡ true → Stands x (ids ps) at
+    place-stands t = record { among = tells ∙ t; place = place }
+
+    pub place-lacks : b ≡ false → Lacks x (ids ps) at
+    place-lacks t = record { among = tells ∙ t; place = place }
 
   -- ** Add
 
@@ -100,43 +106,43 @@ module _ {s : IdSet} {rs : List Progress} (o : Rostered s rs) {ps : List Peer} (
     added : length (insert_id x (ids ps)) ≤ 64 → R.Set (ids (track x r ps))
     added h = rw (ids-track x r ps) (record { rises = ascending_insert x (ids ps) q.rises; few = h })
 
-    pub add_over : b ≡ true → Holds s (set rs at r) (track x r ps)
-    add_over t =
-        let m : memb x (ids ps) ≡ true = sym tells ∙ t in
-        let same : insert_id x (ids ps) ≡ ids ps = insert_same x (ids ps) q.rises m in
-        holds (track x r ps) (added (rw same q.few)) (rw (ids-track x r ps, same, set-is)) (rw (places_over x ps q.rises m r, places-are, place))
+    pub add_over : {at : ℕ} → Stands x (ids ps) at → Holds s (set rs at r) (track x r ps)
+    add_over k =
+        let same : insert_id x (ids ps) ≡ ids ps = insert_same x (ids ps) q.rises k.among in
+        holds (track x r ps) (added (rw same q.few)) (rw (ids-track x r ps, same, set-is)) (rw (places_over x ps q.rises k.among r, places-are, k.place))
 
-    pub add_new : b ≡ false → s.len < 64 → (l : List Progress) → l ≡ insert_at at r rs → (g : Inserted) → g ≡ insert_of x s → Holds g.set l (track x r ps)
-    add_new t h l i g j =
-        let none : memb x (ids ps) ≡ false = sym tells ∙ t in
-        let k : length (ids ps) < 64 = omega (arith, count) in
+    pub add_new : {at : ℕ} → Lacks x (ids ps) at → s.len < 64 → (l : List Progress) → l ≡ insert_at at r rs → (g : Inserted) → g ≡ insert_of x s → Holds g.set l (track x r ps)
+    add_new k h l i g j =
+        let short : length (ids ps) < 64 = omega (arith, count) in
         let few : length (insert_id x (ids ps)) ≤ 64 = omega (arith, length_insert_le x (ids ps)) in
         let same : length (insert_id x (held s)) ≤ 64 = rw (← ids-are) few in
-        holds (track x r ps) (added few) (rw (ids-track x r ps, ids-are, j, insert_fits x s o.set same)) (rw (places-new x ps r none k, places-are, ← place, i))
+        holds (track x r ps) (added few) (rw (ids-track x r ps, ids-are, j, insert_fits x s o.set same)) (rw (places-new x ps r k.among short, places-are, ← k.place, i))
 
-  pub over-says : b ≡ true → ok ≡ room (add x ∷ []) (ids ps)
+  pub over-says : {at : ℕ} → Stands x (ids ps) at → ok ≡ room (add x ∷ []) (ids ps)
   unfolding room
-  over-says t = rw (sym tells ∙ t)
+  over-says k = rw k.among
 
-  pub full-says : b ≡ false → 64 ≤ s.len → fault 16 x ≡ room (add x ∷ []) (ids ps)
+  pub full-says : {at : ℕ} → Lacks x (ids ps) at → 64 ≤ s.len → fault 16 x ≡ room (add x ∷ []) (ids ps)
   unfolding room
-  full-says t h =
-      let k : 64 ≤ length (ids ps) = omega (arith, count) in
-      rw (sym tells ∙ t, le-leb _ _ k)
+  full-says k h =
+      let full : 64 ≤ length (ids ps) = omega (arith, count) in
+      rw (k.among, le-leb _ _ full)
 
-  pub new-says : b ≡ false → s.len < 64 → ok ≡ room (add x ∷ []) (ids ps)
+  pub new-says : {at : ℕ} → Lacks x (ids ps) at → s.len < 64 → ok ≡ room (add x ∷ []) (ids ps)
   unfolding room
-  new-says t h =
-      let k : length (ids ps) < 64 = omega (arith, count) in
-      rw (sym tells ∙ t, lt-leb _ _ k)
+  new-says k h =
+      let short : length (ids ps) < 64 = omega (arith, count) in
+      rw (k.among, lt-leb _ _ short)
+
+  pub at-within : {at : ℕ} → Stands x (ids ps) at → at < 64
+  at-within k = omega (arith, k.place, rank-within x (ids ps) q.rises k.among, q.few)
 
   -- ** Remove
 
-  pub remove_none : b ≡ false → ps ≡ untrack x ps
-  remove_none t = sym (untrack_none x ps (sym tells ∙ t))
+  pub remove_gone : {at : ℕ} → Stands x (ids ps) at → (u : Progress) → u ≡ unused_record → (l : List Progress) → l ≡ remove_at at u rs → (g : Removed) → g ≡ remove_of x s → Holds g.set l (untrack x ps)
+  remove_gone k u n l i g j =
+      let less : R.Set (ids (untrack x ps)) = rw (ids-untrack x ps) (record { rises = ascending_remove x (ids ps) q.rises; few = omega (arith, q.few, length_remove_le x (ids ps)) }) in
+      holds (untrack x ps) less (rw (ids-untrack x ps, ids-are, j, remove_formed x s o.set)) (rw (places-gone x ps q.rises k.among q.few, places-are, ← k.place, i, n))
 
-  pub remove_gone : b ≡ true → (u : Progress) → u ≡ unused_record → (l : List Progress) → l ≡ remove_at at u rs → (g : Removed) → g ≡ remove_of x s → Holds g.set l (untrack x ps)
-  remove_gone t u n l i g j =
-      let less : R.Set (ids (untrack x ps)) =
-      rw (ids-untrack x ps) (record { rises = ascending_remove x (ids ps) q.rises; few = omega (arith, q.few, length_remove_le x (ids ps)) }) in
-      holds (untrack x ps) less (rw (ids-untrack x ps, ids-are, j, remove_formed x s o.set)) (rw (places-gone x ps q.rises (sym tells ∙ t) q.few, places-are, ← place, i, n))
+pub remove_none : {x at : ℕ} {ps : List Peer} → Lacks x (ids ps) at → ps ≡ untrack x ps
+remove_none {x} {at} {ps} k = sym (untrack_none x ps k.among)

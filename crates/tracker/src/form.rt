@@ -2,8 +2,7 @@
 ghost use Rattle.std.specs.Prelude.{◌≡◌, not, drop};
 ghost use Rattle.tracker.specs.Form.{conf_well_formed, all_unused, tracker_well_formed, is_blank, all_blank, log_well_formed};
 
-use crate::{ChangeLog, Configuration, MapChange, MapChangeType, Tracker};
-use progress::Progress;
+use crate::{ChangeLog, Configuration, MapChange, Tracker};
 
 impl Configuration {
     #[tactic(auto, unfolding(crate::specs::Form::conf_well_formed))]
@@ -31,7 +30,12 @@ impl ChangeLog {
     pub fn is_malformed(self) -> bool
         ensures { result ≡ not (log_well_formed self) }
     {
-        Self::CAPACITY < self.count || self.entries.iter().skip(self.count).any(|e| !e.is_blank())
+        Self::CAPACITY < self.count
+            || self
+                .entries
+                .iter()
+                .skip(self.count)
+                .any(|entry| !entry.is_blank())
     }
 }
 
@@ -45,6 +49,6 @@ impl Tracker {
                 .records
                 .iter()
                 .skip(self.ids.len)
-                .any(|r| !r.is_unused())
+                .any(|record| !record.is_unused())
     }
 }

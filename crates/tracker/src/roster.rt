@@ -1,9 +1,9 @@
 // The tracked ids with a record each, as `apply_conf` takes the log entry by entry: contracts see the peers of the rules.
-ghost use Rattle.std.specs.Prelude.{◌≡◌, [], ◌∷◌, OnOk, is_ok, if◌then◌else◌};
+ghost use Rattle.std.specs.Prelude.{◌≡◌, [], ◌∷◌, OnOk, MatchResult, is_ok, if◌then◌else◌};
 ghost use Rattle.rules.specs.State.{ids, add};
 ghost use Rattle.rules.specs.Apply.{room, enrol, track, untrack};
 ghost use Rattle.tracker.specs.Bridge.{entry_of, entries_of};
-ghost use Rattle.tracker.specs.Enrol.{said};
+ghost use Rattle.tracker.specs.Enrol.{said, Stands, Lacks};
 
 use crate::{MapChange, MapChangeType, Tracker};
 use idset::IdSet;
@@ -71,29 +71,39 @@ impl Roster {
         ensures value { said result ≡ room (add id ∷ []) (ids self.old) }
         ensures after { self.new ≡ (if is_ok result then track id «record» self.old else self.old) }
     {
-        let len = self.ids.len;
-        let at = idset::seek(&self.ids.ids, len, 0, id);
-        if idset::stands_at(&self.ids.ids, len, at, id) {
-            self.records[at] = record;
-            return Ok(());
+        match self.place(id) {
+            Ok(at) => {
+                self.records[at] = record;
+                Ok(())
+            }
+            Err(at) if self.ids.len < Tracker::CAPACITY => {
+                insert_at(&mut self.records, at, record);
+                self.ids = self.ids.insert(id).set;
+                Ok(())
+            }
+            Err(_) => Err(NoRoom { id }),
         }
-        if Tracker::CAPACITY <= len {
-            return Err(NoRoom { id });
-        }
-        insert_at(&mut self.records, at, record);
-        self.ids = self.ids.insert(id).set;
-        Ok(())
     }
 
     // `id` no longer tracked.
     fn untrack(&mut self, id: u64)
         ensures { self.new ≡ untrack id self.old }
     {
-        let len = self.ids.len;
-        let at = idset::seek(&self.ids.ids, len, 0, id);
-        if idset::stands_at(&self.ids.ids, len, at, id) {
+        if let Ok(at) = self.place(id) {
             remove_at(&mut self.records, at, Progress::unused());
             self.ids = self.ids.remove(id).set;
+        }
+    }
+
+    // The place at which `id` stands, or would come in, as `binary_search` of a slice has it.
+    fn place(&self, id: u64) -> Result<usize, usize>
+        ensures { MatchResult result (Stands id (ids self.now)) (Lacks id (ids self.now)) }
+    {
+        let at = idset::seek(&self.ids.ids, self.ids.len, 0, id);
+        if idset::stands_at(&self.ids.ids, self.ids.len, at, id) {
+            Ok(at)
+        } else {
+            Err(at)
         }
     }
 }
