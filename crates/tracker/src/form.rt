@@ -1,6 +1,6 @@
 // Well formed: document 01, "The state and its numbers". Each test answers whether its value is malformed.
-ghost use Rattle.std.specs.Prelude.{◌≡◌, not, drop};
-ghost use Rattle.tracker.specs.Form.{conf_well_formed, all_unused, tracker_well_formed, is_blank, all_blank, log_well_formed};
+ghost use Rattle.std.specs.Prelude.{◌≡◌, not};
+ghost use Rattle.tracker.specs.Form.{conf_well_formed, tracker_well_formed, is_blank, log_well_formed};
 
 use crate::{ChangeLog, Configuration, MapChange, Tracker};
 
