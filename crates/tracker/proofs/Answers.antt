@@ -2,21 +2,17 @@
 use Prim.Native.Nat.{◌≤◌, ◌<◌}
 use mathlib.Core.Path.{◌≡◌, ◌∙◌, sym}
 use mathlib.Core.Bool.{Bool, true, false, not}
-use borrow.Author.Tests.{eq-eqb, ne_eqb, le-leb, lt-leb, not-true, not-false}
+use borrow.Author.Tests.{eq-eqb, le-leb, lt-leb, not-true, not-false}
 use lib.ListN.{length, drop}
 use Rattle.rules.specs.Apply.{no_conf_state, to_conf_state}
 use Rattle.idset.specs.Set.{well_formed}
 use Rattle.idset.proofs.Bridge.{set-held}
-use Rattle.tracker.specs.Bridge.{list_in, conf_state_of}
-use Rattle.tracker.specs.ConfStates.{written_of}
-use Rattle.tracker.specs.Form.{conf_well_formed, all_unused, tracker_well_formed, is_blank, all_blank, log_well_formed}
+use Rattle.tracker.specs.Bridge.{conf_state_of}
+use Rattle.tracker.specs.ConfStates.{lists_in, written_of}
+use Rattle.tracker.specs.Form.{conf_well_formed, all_unused, tracker_well_formed, all_blank, log_well_formed}
 use Rattle.tracker.specs.declared.Configuration.{Configuration}
-use Rattle.tracker.specs.declared.MapChange.{MapChange}
-use Rattle.tracker.specs.declared.MapChangeType.{MapChangeType}
-use Rattle.tracker.specs.declared.MapChangeType.TheVariants.{Add, Remove}
 use Rattle.tracker.specs.declared.ChangeLog.{ChangeLog}
 use Rattle.tracker.specs.declared.Tracker.{Tracker}
-use Rattle.tracker.specs.declared.IdList.{IdList}
 use Rattle.tracker.specs.declared.ConfState.{ConfState}
 use Rattle.tracker.specs.declared.Written.{Written}
 use Rattle.tracker.proofs.Confs.{Sets, conf-sets}
@@ -28,43 +24,6 @@ passed w b e f = not-false w (sym e ∙ f)
 
 pub failed : (w b : Bool) → b ≡ not w → b ≡ true → w ≡ false
 failed w b e f = not-true w (sym e ∙ f)
-
--- ** Configuration
-
-module _ (c : Configuration) (b₁ : Bool) (e₁ : b₁ ≡ not (well_formed c.incoming)) where
-  pub conf_1 : b₁ ≡ true → true ≡ not (conf_well_formed c)
-  unfolding conf_well_formed
-  conf_1 f = rw (failed (well_formed c.incoming) b₁ e₁ f)
-
-  module _ (f₁ : b₁ ≡ false) (b₂ : Bool) (e₂ : b₂ ≡ not (well_formed c.outgoing)) where
-    pub conf_2 : b₂ ≡ true → true ≡ not (conf_well_formed c)
-    unfolding conf_well_formed
-    conf_2 f = rw (passed (well_formed c.incoming) b₁ e₁ f₁, failed (well_formed c.outgoing) b₂ e₂ f)
-
-    module _ (f₂ : b₂ ≡ false) (b₃ : Bool) (e₃ : b₃ ≡ not (well_formed c.learners)) where
-      pub conf_3 : b₃ ≡ true → true ≡ not (conf_well_formed c)
-      unfolding conf_well_formed
-      conf_3 f = rw (passed (well_formed c.incoming) b₁ e₁ f₁, passed (well_formed c.outgoing) b₂ e₂ f₂, failed (well_formed c.learners) b₃ e₃ f)
-
-      pub conf_4 : b₃ ≡ false → (b₄ : Bool) → b₄ ≡ not (well_formed c.learners_next) → b₄ ≡ not (conf_well_formed c)
-      unfolding conf_well_formed
-      conf_4 f₃ b₄ e₄ = rw (passed (well_formed c.incoming) b₁ e₁ f₁, passed (well_formed c.outgoing) b₂ e₂ f₂, passed (well_formed c.learners) b₃ e₃ f₃, e₄)
-
--- ** MapChange
-
-module _ (e : MapChange) where
-  pub blank-id : (e.id ≡ 0 → ⊥) → false ≡ is_blank e
-  unfolding is_blank
-  blank-id h = rw (ne_eqb e.id 0 h)
-
-  module _ (h : e.id ≡ 0) (k : MapChangeType) (q : k ≡ e.kind) where
-    pub blank_add : k ≡ Add → true ≡ is_blank e
-    unfolding is_blank
-    blank_add a = rw (eq-eqb e.id 0 h, ← q, a)
-
-    pub blank_remove : k ≡ Remove → false ≡ is_blank e
-    unfolding is_blank
-    blank_remove a = rw (eq-eqb e.id 0 h, ← q, a)
 
 -- ** ChangeLog
 
@@ -79,19 +38,10 @@ module _ (l : ChangeLog) (long : length l.entries ≡ 256) where
 
 -- ** Tracker
 
-module _ (t : Tracker) (b₁ : Bool) (e₁ : b₁ ≡ not (conf_well_formed t.conf)) where
-  pub tracker_1 : b₁ ≡ true → true ≡ not (tracker_well_formed t)
+module _ (t : Tracker) (b₁ : Bool) (e₁ : b₁ ≡ not (conf_well_formed t.conf)) (f₁ : b₁ ≡ false) (b₂ : Bool) (e₂ : b₂ ≡ not (well_formed t.ids)) (f₂ : b₂ ≡ false) where
+  pub tracker-rest : length t.records ≡ 64 → (b₃ : Bool) → b₃ ≡ not (all_unused (drop t.ids.len t.records)) → b₃ ≡ not (tracker_well_formed t)
   unfolding tracker_well_formed
-  tracker_1 f = rw (failed (conf_well_formed t.conf) b₁ e₁ f)
-
-  module _ (f₁ : b₁ ≡ false) (b₂ : Bool) (e₂ : b₂ ≡ not (well_formed t.ids)) where
-    pub tracker_2 : b₂ ≡ true → true ≡ not (tracker_well_formed t)
-    unfolding tracker_well_formed
-    tracker_2 f = rw (passed (conf_well_formed t.conf) b₁ e₁ f₁, failed (well_formed t.ids) b₂ e₂ f)
-
-    pub tracker_3 : b₂ ≡ false → length t.records ≡ 64 → (b₃ : Bool) → b₃ ≡ not (all_unused (drop t.ids.len t.records)) → b₃ ≡ not (tracker_well_formed t)
-    unfolding tracker_well_formed
-    tracker_3 f₂ long b₃ e₃ = rw (passed (conf_well_formed t.conf) b₁ e₁ f₁, passed (well_formed t.ids) b₂ e₂ f₂, eq-eqb _ _ long, e₃)
+  tracker-rest long b₃ e₃ = rw (passed (conf_well_formed t.conf) b₁ e₁ f₁, passed (well_formed t.ids) b₂ e₂ f₂, eq-eqb _ _ long, e₃)
 
 -- ** to_conf_state
 
@@ -100,12 +50,10 @@ module _ (t : Tracker) (b : Bool) (e : b ≡ not (tracker_well_formed t)) where
   unfolding written_of
   written_none f k q = rw (failed (tracker_well_formed t) b e f, q)
 
-  module _ (f : b ≡ false) (v : IdList) (i : v ≡ list_in t.conf.incoming) (l : IdList) (j : l ≡ list_in t.conf.learners) where
-    pub written-lists : (o : IdList) → o ≡ list_in t.conf.outgoing → (n : IdList) → n ≡ list_in t.conf.learners_next
-        → ◌≡◌ {A = Written} (record { number = 0; id = 0; conf_state = record { voters = v; learners = l; voters_outgoing = o; learners_next = n; auto_leave = t.conf.auto_leave } }) (written_of t)
-    unfolding written_of to_conf_state
-    written-lists o k n m =
-        let w : tracker_well_formed t ≡ true = passed (tracker_well_formed t) b e f in
-        let c : Configuration = t.conf in
-        let s : Sets c = conf-sets c (tracker_parts t w).conf in
-        rw (w, tracker_formed t w, set-held c.incoming s.incoming, set-held c.outgoing s.outgoing, set-held c.learners s.learners, set-held c.learners_next s.next, i, j, k, m)
+  pub written-lists : b ≡ false → (k : ConfState) → k ≡ lists_in t.conf → ◌≡◌ {A = Written} (record { number = 0; id = 0; conf_state = k }) (written_of t)
+  unfolding written_of to_conf_state
+  written-lists f k q =
+      let w : tracker_well_formed t ≡ true = passed (tracker_well_formed t) b e f in
+      let c : Configuration = t.conf in
+      let s : Sets c = conf-sets c (tracker_parts t w).conf in
+      rw (w, tracker_formed t w, set-held c.incoming s.incoming, set-held c.outgoing s.outgoing, set-held c.learners s.learners, set-held c.learners_next s.next, q)

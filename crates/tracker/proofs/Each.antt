@@ -1,14 +1,13 @@
 -- A test of each element of a list: one turn of its walk over an array, and, where it is a test for one element, which lists pass it.
 -- Assumes nothing.
-use Prim.Native.Nat.{ℕ, zero, suc, ◌+◌, ◌-◌, ◌≤◌, ◌<◌}
+use Prim.Native.Nat.{ℕ, zero, suc, ◌-◌}
 use mathlib.Core.Path.{◌≡◌, refl, ◌∙◌, sym}
-use mathlib.Core.Bool.{Bool, true, false, ◌&&◌, not}
+use mathlib.Core.Bool.{Bool, true, false, ◌&&◌, ◌||◌, not}
 use mathlib.Core.List.{List, [], ◌∷◌, ◌++◌}
-use native.Mathlib.Numerals.{add-one}
 use native.Mathlib.Omega.{arith}
-use borrow.Author.Tests.{not-true, not-false}
-use lib.ListN.{length, take, drop, get_or, replicate, length-drop, drop_of_length-le, take-append-drop}
-use lib.Seq.{drop_at, drop-cons}
+use lib.ListN.{length, take, drop, replicate, length-drop, take-append-drop}
+use lib.Seq.{drop_at}
+use Rattle.std.specs.List.{list_any}
 use Rattle.rules.proofs.Sets.{and_left, and_right}
 
 -- all tests each element by p
@@ -16,24 +15,14 @@ pub record Each {A : Type 0} (p : A → Bool) (all : List A → Bool) : Type 0 w
   pub none : all [] ≡ true
   pub more : (x : A) (xs : List A) → all (x ∷ xs) ≡ p x && all xs
 
--- ** The walk
-
--- from n on, and it has got to i
-pub record Testing {A : Type 0} (all : List A → Bool) (n : ℕ) (l : List A) (i : ℕ) : Type 0 where
-  pub same : all (drop n l) ≡ all (drop i l)
-
-module _ {A : Type 0} {p : A → Bool} {all : List A → Bool} (e : Each p all) {n : ℕ} {l : List A} {i : ℕ} (s : Testing all n l i) where
-  pub test_end : (m : ℕ) → length l ≡ m → m ≤ i → false ≡ not (all (drop n l))
-  test_end m k h =
-      let g : length l ≤ i = omega arith in
-      rw (s.same, drop_of_length-le l g, e.none)
-
-  module _ (h : i < length l) (d : A) (b : Bool) (q : b ≡ p (get_or l i d)) where
-    pub test_not : not b ≡ true → true ≡ not (all (drop n l))
-    test_not f = rw (s.same, drop-cons l i d h, e.more, ← q, not-true b f)
-
-    pub test_next : not b ≡ false → Testing all n l (i + 1)
-    test_next f = record { same = s.same ∙ rw (drop-cons l i d h, e.more, ← q, not-false b f, add-one) }
+-- whether one of them fails the test
+pub any_fails : {A : Type 0} {p : A → Bool} {all : List A → Bool} → Each p all → (l : List A) → list_any (λ y. not (p y)) l ≡ not (all l)
+any_fails e [] = rw e.none
+any_fails {p} {all} e (x ∷ xs) = rw (e.more x xs, any_fails e xs) (go (p x))
+  where
+    go : (b : Bool) → not b || not (all xs) ≡ not (b && all xs)
+    go true = refl
+    go false = refl
 
 -- ** A test for x: the places after the first n
 

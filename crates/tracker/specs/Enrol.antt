@@ -1,14 +1,13 @@
--- The tracked ids and their records in two arrays, and what one log entry makes of them. Assumes nothing.
-use Rattle.std.specs.Prelude.{ℕ, ◌≡◌, Bool, true, false, ◌&&◌, not, cond, List, [], ◌∷◌, leb, length, drop}
+-- The tracked ids and their records in two arrays, and what the taking of log entries says. Assumes nothing.
+use Rattle.std.specs.Prelude.{ℕ, ◌≡◌, true, false, List, length, drop, Result, Ok, Err}
 use Rattle.progress.specs.declared.Progress.{Progress}
 use Rattle.rules.specs.Ids.{memb}
-use Rattle.rules.specs.State.{Peer, ids, Entry, add, remove}
-use Rattle.rules.specs.Apply.{track, untrack}
-use Rattle.idset.specs.Set.{held, set_of, well_formed}
+use Rattle.rules.specs.Answers.{Verdict, ok, fault}
+use Rattle.idset.specs.Places.{rank}
+use Rattle.idset.specs.Set.{well_formed}
 use Rattle.idset.specs.declared.IdSet.{IdSet}
-use Rattle.tracker.specs.Bridge.{peers_of, record_places}
 use Rattle.tracker.specs.Form.{all_unused}
-use Rattle.tracker.specs.declared.apply.Peers.{Peers}
+use Rattle.tracker.specs.declared.roster.NoRoom.{NoRoom}
 
 -- the ids are a well-formed set, and each place after them has the unused record
 pub record Rostered (s : IdSet) (rs : List Progress) : Type 0 where
@@ -16,19 +15,16 @@ pub record Rostered (s : IdSet) (rs : List Progress) : Type 0 where
   pub long : length rs ≡ 64
   pub clear : all_unused (drop s.len rs) ≡ true
 
-abbrev pub peers_in : Peers → List Peer
-peers_in p = peers_of (held p.ids) p.records
+-- entries taken, or 16 with the id for which there is no room
+abbrev pub said : Result (Unit {0}) NoRoom → Verdict
+said (Ok u) = ok
+said (Err e) = fault 16 e.id
 
-abbrev pub roster_of : Bool → ℕ → List Peer → Peers
-roster_of full x ps = record { ids = set_of (ids ps); records = record_places ps; full = full; id = x }
+-- x is the id at the place n of ascending ids; it is not among them, and would come in at n
+pub record Stands (x : ℕ) (xs : List ℕ) (n : ℕ) : Type 0 where
+  pub among : memb x xs ≡ true
+  pub place : n ≡ rank x xs
 
--- one entry, r being the fresh record: as the rules have it, or no room
-unfoldable pub enter_in : Progress → Entry → List Peer → Peers
-enter_in r (add x) ps = cond (not (memb x (ids ps)) && leb 64 (length (ids ps))) (roster_of true x ps) (roster_of false 0 (track x r ps))
-enter_in r (remove x) ps = roster_of false 0 (untrack x ps)
-
--- the entries in order, up to the first for which there is no room
-unfoldable pub enrol_in : Progress → List Entry → List Peer → Peers
-enrol_in r [] ps = roster_of false 0 ps
-enrol_in r (add x ∷ es) ps = cond (not (memb x (ids ps)) && leb 64 (length (ids ps))) (roster_of true x ps) (enrol_in r es (track x r ps))
-enrol_in r (remove x ∷ es) ps = enrol_in r es (untrack x ps)
+pub record Lacks (x : ℕ) (xs : List ℕ) (n : ℕ) : Type 0 where
+  pub among : memb x xs ≡ false
+  pub place : n ≡ rank x xs

@@ -2,9 +2,9 @@
 ghost use Rattle.std.specs.Prelude.{◌≡◌};
 ghost use Rattle.rules.specs.Apply.{no_conf_state};
 ghost use Rattle.tracker.specs.Bridge.{list_in, conf_state_of};
-ghost use Rattle.tracker.specs.ConfStates.{written_of};
+ghost use Rattle.tracker.specs.ConfStates.{written_of, lists_in};
 
-use crate::{ConfState, IdList, Tracker, Written, numbers};
+use crate::{ConfState, Configuration, IdList, Tracker, Written, numbers};
 use idset::IdSet;
 
 impl Tracker {
@@ -19,18 +19,10 @@ impl Tracker {
                 conf_state: ConfState::new(),
             };
         }
-        let conf = self.conf;
-        let conf_state = ConfState {
-            voters: list_of(conf.incoming),
-            learners: list_of(conf.learners),
-            voters_outgoing: list_of(conf.outgoing),
-            learners_next: list_of(conf.learners_next),
-            auto_leave: conf.auto_leave,
-        };
         Written {
             number: numbers::ACCEPTED,
             id: 0,
-            conf_state,
+            conf_state: self.conf.into(),
         }
     }
 }
@@ -40,22 +32,31 @@ impl ConfState {
     pub fn new() -> Self
         ensures { result ≡ conf_state_of no_conf_state }
     {
-        let none = list_of(IdSet::new());
+        Configuration::new().into()
+    }
+}
+
+// The sets as lists, and the flag.
+impl From<Configuration> for ConfState {
+    ghost from_gives = { λ c state. state ≡ lists_in c };
+
+    fn from(conf: Configuration) -> Self {
         ConfState {
-            voters: none,
-            learners: none,
-            voters_outgoing: none,
-            learners_next: none,
-            auto_leave: false,
+            voters: conf.incoming.into(),
+            learners: conf.learners.into(),
+            voters_outgoing: conf.outgoing.into(),
+            learners_next: conf.learners_next.into(),
+            auto_leave: conf.auto_leave,
         }
     }
 }
 
 // A set as a list: the same places, the same count.
-fn list_of(set: IdSet) -> IdList
-    ensures { result ≡ list_in set }
-{
-    let ids = set.ids;
-    let len = set.len;
-    IdList { ids, len }
+impl From<IdSet> for IdList {
+    ghost from_gives = { λ s list. list ≡ list_in s };
+
+    fn from(set: IdSet) -> Self {
+        let IdSet { ids, len } = set;
+        IdList { ids, len }
+    }
 }

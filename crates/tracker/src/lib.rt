@@ -12,6 +12,7 @@ use progress::Progress;
 pub mod numbers; // the refusal numbers
 pub mod form; // well formed
 pub mod apply; // apply_conf
+mod roster; // the tracked as the log is taken
 pub mod conf_state; // to_conf_state
 
 // The configuration tracked in a `Tracker`.
@@ -25,13 +26,15 @@ pub struct Configuration {
 }
 
 // Change log for progress map.
-#[derive(Clone, Copy)]
+#[derive(Clone, Copy, Debug, Default, PartialEq, Eq)]
 pub enum MapChangeType {
+    #[default]
     Add,
     Remove,
 }
 
-#[derive(Clone, Copy)]
+// The default is what an unused place of a log holds: an Add of 0.
+#[derive(Clone, Copy, Debug, Default, PartialEq, Eq)]
 pub struct MapChange {
     pub id: u64,
     pub kind: MapChangeType,
@@ -115,13 +118,8 @@ impl ChangeLog {
     pub fn new() -> Self
         ensures { result ≡ change_log_of [] }
     {
-        let unused = MapChange {
-            id: 0,
-            kind: MapChangeType::Add,
-        };
-        let entries = [unused; Self::CAPACITY];
         ChangeLog {
-            entries: entries,
+            entries: [MapChange::default(); Self::CAPACITY],
             count: 0,
         }
     }
@@ -134,22 +132,15 @@ impl IdList {
 impl Tracker {
     pub const CAPACITY: usize = 64;
 
-    // The last place.
-    pub const LAST: usize = Self::CAPACITY - 1;
-
     // The fresh state.
     pub fn new(max_inflight: u64) -> Self
         ensures { result ≡ tracker_of (fresh max_inflight) }
     {
-        let conf = Configuration::new();
-        let ids = IdSet::new();
-        let unused = Progress::unused();
-        let records = [unused; Self::CAPACITY];
         Tracker {
-            conf: conf,
-            ids: ids,
-            records: records,
-            max_inflight: max_inflight,
+            conf: Configuration::new(),
+            ids: IdSet::new(),
+            records: [Progress::unused(); Self::CAPACITY],
+            max_inflight,
         }
     }
 }
