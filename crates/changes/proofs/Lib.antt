@@ -1,6 +1,3 @@
-pub mod Sizes
-pub mod Variants
-pub mod Cells
 pub mod Standings
 pub mod RulesParts
 pub mod Rules

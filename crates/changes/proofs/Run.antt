@@ -1,9 +1,12 @@
 -- A list of changes carried out: what is left of it answers for all. Assumes nothing.
-use Prim.Native.Nat.{ℕ, ◌+◌, ◌≤◌, ◌<◌}
+use Prim.Native.Nat.{ℕ, ◌+◌, ◌≤◌, ◌<◌, min}
 use mathlib.Core.Path.{◌≡◌, refl, sym, ◌∙◌}
 use mathlib.Core.Bool.{Bool, true, false, cond, true≢false, false≢true}
 use mathlib.Core.List.{List, [], ◌∷◌}
 use native.Mathlib.Numerals.{add-one}
+use native.Mathlib.Omega.{arith}
+use borrow.Author.Tests.{leb-true, leb-false}
+use lib.Dec.{leb}
 use lib.ListN.{length, drop, get_or, drop_of_length-le}
 use lib.Seq.{drop-cons}
 use Rattle.changes.specs.Table.{kind_in}
@@ -30,20 +33,29 @@ pub record Running (base xs ks : List ℕ) (w₀ w : Work) (i : ℕ) : Type 0 wh
   pub same : changes_in base (drop i xs) (drop i ks) w ≡ changes_in base xs ks w₀
 
 module _ {base xs ks : List ℕ} {w₀ w : Work} {i : ℕ} (r : Running base xs ks w₀ w i) where
-  pub run_end : length xs ≤ i → w ≡ changes_in base xs ks w₀
+  ids_end : length xs ≤ i → w ≡ changes_in base xs ks w₀
   unfolding changes_in
-  run_end h = rw (drop_of_length-le xs h) at r.same
+  ids_end h = rw (drop_of_length-le xs h) at r.same
 
-  pub run_short : length ks ≤ i → w ≡ changes_in base xs ks w₀
-  run_short h = sym (none_left base (drop i xs) w) ∙ rw (drop_of_length-le ks h) at r.same
+  kinds_end : length ks ≤ i → w ≡ changes_in base xs ks w₀
+  kinds_end h = sym (none_left base (drop i xs) w) ∙ rw (drop_of_length-le ks h) at r.same
 
-  module _ (h : i < length xs) (g : i < length ks) (k : Kind) (v : Work) (e : k ≡ kind_in (get_or ks i 0)) (d : v ≡ change_in base (get_or xs i 0) k w) where
+  -- one of the lists is passed
+  pub run_end : i ≡ min (length xs) (length ks) → w ≡ changes_in base xs ks w₀
+  run_end e = go (leb (length xs) i) refl
+    where
+      go : (b : Bool) → leb (length xs) i ≡ b → w ≡ changes_in base xs ks w₀
+      go true h = ids_end (leb-true (length xs) i h)
+      go false h = kinds_end (omega (arith, e, leb-false (length xs) i h))
+
+  -- x and z are the id and the kind at i
+  module _ {x z : ℕ} (t : (i < length xs) × (i < length ks) × ((d : ℕ) → x ≡ get_or xs i d) × ((d : ℕ) → z ≡ get_or ks i d)) {k : Kind} (e : k ≡ kind_in z) {v : Work} (d : v ≡ change_in base x k w) where
     turn : cond v.full v (changes_in base (drop (i + 1) xs) (drop (i + 1) ks) v) ≡ changes_in base xs ks w₀
     unfolding changes_in
-    turn = rw (d, e, add-one) (rw (drop-cons xs i 0 h, drop-cons ks i 0 g) at r.same)
+    turn = rw (d, e, t.2 0, t.3 0, add-one) (rw (drop-cons xs i 0 t.0, drop-cons ks i 0 t.1) at r.same)
 
     pub run-full : v.full ≡ true → v ≡ changes_in base xs ks w₀
     run-full f = first v.full v _ _ f turn
 
-    pub run-next : v.full ≡ false → Running base xs ks w₀ v (i + 1)
-    run-next f = record { same = second v.full v _ _ f turn }
+    pub run-next : v.full ≡ false → (n : ℕ) → n ≡ i + 1 → Running base xs ks w₀ v n
+    run-next f n h = rw h (record { same = second v.full v _ _ f turn })

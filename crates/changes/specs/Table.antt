@@ -47,21 +47,6 @@ move_of O = row IO Stays OS Stays O Stays
 move_of IO = row IO Stays OS Stays O Stays
 move_of OS = row IO Stays OS Stays O Stays
 
--- the row and the column at which the constant has a move
-abbrev pub place_number : Standing → ℕ
-place_number None = 0
-place_number Idle = 1
-place_number I = 2
-place_number L = 3
-place_number O = 4
-place_number IO = 5
-place_number OS = 6
-
-abbrev pub column_number : Kind → ℕ
-column_number AddNode = 0
-column_number AddLearnerNode = 1
-column_number RemoveNode = 2
-
 -- "0 AddNode, 1 RemoveNode, 2 AddLearnerNode"
 abbrev pub kind_in : ℕ → Kind
 kind_in k = cond (eqb k 0) AddNode (cond (eqb k 1) RemoveNode AddLearnerNode)

@@ -2,8 +2,8 @@
 // table of standings here (table.rt); `init_progress` is its first row.
 #![tactic(auto)]
 
-ghost use Rattle.std.specs.Prelude.{◌≡◌, ◌||◌, ◌-◌};
-ghost use Rattle.changes.specs.Change.{stands_in, put_in, changed_in, place_in, any_changed_in, one_more, idle_after, push_in, work_in, moved_in, change_in, changes_in};
+ghost use Rattle.std.specs.Prelude.{◌≡◌};
+ghost use Rattle.changes.specs.Change.{stands_in, put_in, changed_in, place_in, any_changed_in, one_more, push_in, moved_in, change_in, changes_in};
 
 use idset::IdSet;
 use tracker::{ChangeLog, Configuration, MapChange, MapChangeType, Tracker};
@@ -26,53 +26,34 @@ pub struct Work {
     pub id: u64,
 }
 
-// A set after an id was put into it or taken from it, and whether it changed.
-#[derive(Clone, Copy)]
-pub struct Altered {
-    pub set: IdSet,
-    pub changed: bool,
-}
-
-// A configuration after an id came to its standing, and whether one of its sets changed.
-#[derive(Clone, Copy)]
-pub struct Placed {
-    pub conf: Configuration,
-    pub changed: bool,
-}
-
 // Applies a change list to the configuration; it stops at the first id for which there is no room. By convention, changes to voters are
 // always made to incoming. Outgoing is either empty or preserves the outgoing configuration while in a joint state.
 pub fn apply<'a>(w: Work, base: &'a [u64], ids: &'a [u64], kinds: &'a [u8]) -> Work
     ensures { result ≡ changes_in base.now ids.now kinds.now w }
 {
-    let mut v = w;
-    let mut i = 0;
-    while i < ids.len() {
-        if kinds.len() <= i {
-            return v;
+    let mut work = w;
+    for (id, kind) in ids.iter().zip(kinds) {
+        work = change(work, base, *id, table::kind_of(*kind));
+        if work.full {
+            return work;
         }
-        v = change(v, base, ids[i], table::kind_of(kinds[i]));
-        if v.full {
-            return v;
-        }
-        i += 1;
     }
-    v
+    work
 }
 
 // One change, by the table. One with id 0 is skipped: it did nothing.
+#[tactic(auto, unfolding(crate::specs::Change::change_in))]
 pub fn change(w: Work, base: &[u64], id: u64, kind: table::Kind) -> Work
     ensures { result ≡ change_in base.now id kind w }
 {
     if id == 0 {
-        let mut skipped = w;
-        skipped.idle = one_more(w.idle);
-        return skipped;
+        return Work {
+            idle: one_more(w.idle),
+            ..w
+        };
     }
-    let log = w.log;
-    let tracked = pending::is_tracked(base, log.count, log, id);
-    let conf = w.conf;
-    let from = standing(conf, tracked, id);
+    let tracked = pending::is_tracked(base, w.log.count, w.log, id);
+    let from = standing(w.conf, tracked, id);
     moved(w, id, table::next_move(from, kind))
 }
 
@@ -94,68 +75,35 @@ fn standing(conf: Configuration, tracked: bool, id: u64) -> table::Standing
 fn moved(w: Work, id: u64, to: table::Move) -> Work
     ensures { result ≡ moved_in id to w }
 {
-    let n = w.tracked;
-    let next = to.next;
-    let effect = to.effect;
-    match effect {
-        table::Effect::Stays => {
-            let placed = place(w.conf, id, next);
-            done(placed.conf, w.log, n, idle_after(w.idle, placed.changed))
-        }
-        table::Effect::Adds => {
-            if Tracker::CAPACITY <= n {
-                let conf = w.conf;
-                let log = w.log;
-                return Work {
-                    conf,
-                    log,
-                    tracked: n,
-                    idle: w.idle,
-                    full: true,
-                    id,
-                };
-            }
-            let placed = place(w.conf, id, next);
-            done(
-                placed.conf,
-                push(w.log, id, MapChangeType::Add),
-                n + 1,
-                w.idle,
-            )
-        }
-        table::Effect::Removes => {
-            let placed = place(w.conf, id, next);
-            done(
-                placed.conf,
-                push(w.log, id, MapChangeType::Remove),
-                less(n),
-                w.idle,
-            )
-        }
-    }
-}
-
-fn done(conf: Configuration, log: ChangeLog, tracked: usize, idle: usize) -> Work
-    ensures { result ≡ work_in conf log tracked idle }
-{
-    Work {
-        conf,
-        log,
-        tracked,
-        idle,
+    let mut new = Work {
         full: false,
         id: 0,
+        ..w
+    };
+    let changed = place(&mut new.conf, id, to.next);
+    match to.effect {
+        table::Effect::Stays => {
+            if !changed {
+                new.idle = one_more(w.idle);
+            }
+        }
+        table::Effect::Adds => {
+            if Tracker::CAPACITY <= w.tracked {
+                return Work {
+                    full: true,
+                    id,
+                    ..w
+                };
+            }
+            new.log = push(w.log, id, MapChangeType::Add);
+            new.tracked = w.tracked + 1;
+        }
+        table::Effect::Removes => {
+            new.log = push(w.log, id, MapChangeType::Remove);
+            new.tracked = w.tracked.saturating_sub(1);
+        }
     }
-}
-
-// How many did nothing after an entry that logs nothing; `changed` tells whether a set changed.
-fn idle_after(n: usize, changed: bool) -> usize
-    ensures { result ≡ idle_after changed n }
-{
-    if changed {
-        return n;
-    }
-    one_more(n)
+    new
 }
 
 // One more, as far as a list can be long.
@@ -165,80 +113,42 @@ fn one_more(n: usize) -> usize
     if n < MAX_CHANGES { n + 1 } else { n }
 }
 
-fn less(n: usize) -> usize
-    ensures { result ≡ n - 1 }
+// `id` comes to the standing `to` in each set; no change touches outgoing. Whether one of the sets changed.
+fn place(conf: &mut Configuration, id: u64, to: table::Standing) -> bool
+    ensures after { conf.new ≡ place_in id to conf.old }
+    ensures changed { result ≡ any_changed_in id to conf.old }
 {
-    if n == 0 { 0 } else { n - 1 }
+    let incoming = put(&mut conf.incoming, id, table::is_incoming(to));
+    let learners = put(&mut conf.learners, id, table::is_learner(to));
+    let staged = put(&mut conf.learners_next, id, table::is_staged(to));
+    incoming || learners || staged
 }
 
-// `id` comes to the standing `to` in each set; no change touches outgoing.
-fn place(conf: Configuration, id: u64, to: table::Standing) -> Placed
-    ensures { result ≡ record { conf = place_in id to conf; changed = any_changed_in id to conf } }
-{
-    let outgoing = conf.outgoing;
-    let auto_leave = conf.auto_leave;
-    let voters = put(conf.incoming, id, table::is_incoming(to));
-    let others = put(conf.learners, id, table::is_learner(to));
-    let staged = put(conf.learners_next, id, table::is_staged(to));
-    let incoming = voters.set;
-    let learners = others.set;
-    let learners_next = staged.set;
-    let placed = Configuration {
-        incoming,
-        outgoing,
-        learners,
-        learners_next,
-        auto_leave,
-    };
-    let changed = any(voters.changed, others.changed, staged.changed);
-    Placed {
-        conf: placed,
-        changed,
-    }
-}
-
-fn any(a: bool, b: bool, c: bool) -> bool
-    ensures { result ≡ a || b || c }
-{
-    if a {
-        return true;
-    }
-    if b {
-        return true;
-    }
-    c
-}
-
-// The set with `id`, or without it.
-fn put(set: IdSet, id: u64, with: bool) -> Altered
-    ensures { result ≡ record { set = put_in with id set; changed = changed_in with id set } }
+// Puts `id` into the set, or takes it from it. Whether the set changed.
+fn put(set: &mut IdSet, id: u64, with: bool) -> bool
+    ensures after { set.new ≡ put_in with id set.old }
+    ensures changed { result ≡ changed_in with id set.old }
 {
     if with {
         let grown = set.insert(id);
-        let more = grown.set;
-        return Altered {
-            set: more,
-            changed: grown.changed,
-        };
-    }
-    let shrunk = set.remove(id);
-    let less = shrunk.set;
-    Altered {
-        set: less,
-        changed: shrunk.changed,
+        *set = grown.set;
+        grown.changed
+    } else {
+        let shrunk = set.remove(id);
+        *set = shrunk.set;
+        shrunk.changed
     }
 }
 
 // The log with one entry more; a full log stays as it is.
+#[tactic(auto, unfolding(crate::specs::Change::push_in))]
 pub fn push(log: ChangeLog, id: u64, kind: MapChangeType) -> ChangeLog
     ensures { result ≡ push_in id kind log }
 {
-    let n = log.count;
-    if ChangeLog::CAPACITY <= n {
-        return log;
-    }
     let mut longer = log;
-    longer.entries[n] = MapChange { id, kind };
-    longer.count = n + 1;
+    if log.count < ChangeLog::CAPACITY {
+        longer.entries[log.count] = MapChange { id, kind };
+        longer.count = log.count + 1;
+    }
     longer
 }

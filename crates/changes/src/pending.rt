@@ -1,7 +1,6 @@
 // `IncrChangeMap` of src/confchange/changer.rs: the base ids with the pending log over them. The view refers to the base ids and copies none.
-ghost use Rattle.std.specs.Prelude.{◌≡◌, take};
-ghost use Rattle.rules.specs.Changes.{last_says};
-ghost use Rattle.tracker.specs.Bridge.{entry_of, entries_of};
+ghost use Rattle.std.specs.Prelude.{◌≡◌, take, fold};
+ghost use Rattle.tracker.specs.Bridge.{entry_of};
 ghost use Rattle.changes.specs.Pending.{entry_says, tracked_in};
 
 use tracker::{ChangeLog, MapChange, MapChangeType};
@@ -37,37 +36,26 @@ pub fn is_tracked(base: &[u64], count: usize, log: ChangeLog, id: u64) -> bool
 pub fn tracked_in(base: &[u64], count: usize, log: ChangeLog, id: u64) -> bool
     ensures { result ≡ tracked_in base.now count log id }
 {
-    let known = idset::contains_in(base, base.len(), id);
-    says(log, count, id, known)
+    says(log, count, id, base.contains(&id))
 }
 
 // What the first `count` entries of the log say of `id`: the last one for it decides; `known` where there is none.
 fn says(log: ChangeLog, count: usize, id: u64, known: bool) -> bool
-    ensures { result ≡ last_says id (entries_of (take count log.entries)) known }
+    ensures { result ≡ fold (λ answer e. entry_says id (entry_of e) answer) known (take count log.entries) }
 {
-    let mut answer = known;
-    let mut i = 0;
-    while i < ChangeLog::CAPACITY {
-        if count <= i {
-            return answer;
-        }
-        let e = log.entries[i];
-        answer = says_one(e, id, answer);
-        i += 1;
-    }
-    answer
+    log.entries
+        .iter()
+        .take(count)
+        .fold(known, |answer, entry| says_one(*entry, id, answer))
 }
 
 // What one entry says of `id`; `known` where it is for another.
 fn says_one(e: MapChange, id: u64, known: bool) -> bool
     ensures { result ≡ entry_says id (entry_of e) known }
 {
-    if e.id != id {
-        return known;
-    }
-    let kind = e.kind;
-    match kind {
-        MapChangeType::Add => true,
-        MapChangeType::Remove => false,
+    if e.id == id {
+        matches!(e.kind, MapChangeType::Add)
+    } else {
+        known
     }
 }

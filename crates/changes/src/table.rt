@@ -1,8 +1,8 @@
 // The table of standings: document 01, "What one change does to one id".
-ghost use Rattle.std.specs.Prelude.{◌≡◌, ◌<◌};
-ghost use Rattle.changes.specs.Table.{kind_in, move_of, place_number, column_number, voter_row, row_of, incoming_at, learner_at, staged_at};
+ghost use Rattle.std.specs.Prelude.{◌≡◌};
+ghost use Rattle.changes.specs.Table.{kind_in, move_of, row_of, incoming_at, learner_at, staged_at};
 
-// Where an id stands: untracked, tracked only, incoming, learner, outgoing, both voters, outgoing and staged.
+// Where an id stands, in the order of the rows of `MOVES`: untracked, tracked only, incoming, learner, outgoing, both voters, outgoing and staged.
 #[derive(Clone, Copy)]
 pub enum Standing {
     None,
@@ -14,7 +14,7 @@ pub enum Standing {
     OS,
 }
 
-// What a change asks for.
+// What a change asks for, in the order of the columns of `MOVES`.
 #[derive(Clone, Copy)]
 pub enum Kind {
     AddNode,
@@ -94,51 +94,22 @@ const MOVES: [[Move; 3]; 7] = [
 ];
 
 // What a change of this kind does to an id that stands there.
+#[tactic(auto, unfolding(crate::specs::Table::move_of))]
 pub fn next_move(from: Standing, kind: Kind) -> Move
     ensures { result ≡ move_of from kind }
 {
-    let row = row_number(from);
-    let column = column_number(kind);
-    MOVES[row][column]
-}
-
-fn row_number(s: Standing) -> usize
-    ensures value { result ≡ place_number s }
-    ensures upper_bound { result < 7 }
-{
-    match s {
-        Standing::None => 0,
-        Standing::Idle => 1,
-        Standing::I => 2,
-        Standing::L => 3,
-        Standing::O => 4,
-        Standing::IO => 5,
-        Standing::OS => 6,
-    }
-}
-
-fn column_number(k: Kind) -> usize
-    ensures value { result ≡ column_number k }
-    ensures upper_bound { result < 3 }
-{
-    match k {
-        Kind::AddNode => 0,
-        Kind::AddLearnerNode => 1,
-        Kind::RemoveNode => 2,
-    }
+    MOVES[from as usize][kind as usize]
 }
 
 // 0 AddNode, 1 RemoveNode, 2 AddLearnerNode.
 pub fn kind_of(kind: u8) -> Kind
     ensures { result ≡ kind_in kind }
 {
-    if kind == 0 {
-        return Kind::AddNode;
+    match kind {
+        0 => Kind::AddNode,
+        1 => Kind::RemoveNode,
+        _ => Kind::AddLearnerNode,
     }
-    if kind == 1 {
-        return Kind::RemoveNode;
-    }
-    Kind::AddLearnerNode
 }
 
 // The standing of an id that is, or is not, tracked and in each set. An id that is incoming, outgoing and staged moves as one of both voters.
@@ -151,58 +122,32 @@ pub fn standing_of(
 ) -> Standing
     ensures { result ≡ row_of tracked incoming outgoing learner staged }
 {
-    if !tracked {
-        return Standing::None;
+    match (tracked, incoming, outgoing, learner, staged) {
+        (false, _, _, _, _) => Standing::None,
+        (true, true, true, _, _) => Standing::IO,
+        (true, false, true, _, true) => Standing::OS,
+        (true, false, true, _, false) => Standing::O,
+        (true, true, false, _, _) => Standing::I,
+        (true, false, false, true, _) => Standing::L,
+        (true, false, false, false, _) => Standing::Idle,
     }
-    if outgoing {
-        return voter_of(incoming, staged);
-    }
-    if incoming {
-        return Standing::I;
-    }
-    if learner {
-        return Standing::L;
-    }
-    Standing::Idle
-}
-
-// An outgoing voter's standing.
-fn voter_of(incoming: bool, staged: bool) -> Standing
-    ensures { result ≡ voter_row incoming staged }
-{
-    if incoming {
-        return Standing::IO;
-    }
-    if staged {
-        return Standing::OS;
-    }
-    Standing::O
 }
 
 // In which sets an id stands.
 pub fn is_incoming(s: Standing) -> bool
     ensures { result ≡ incoming_at s }
 {
-    match s {
-        Standing::I | Standing::IO => true,
-        _ => false,
-    }
+    matches!(s, Standing::I | Standing::IO)
 }
 
 pub fn is_learner(s: Standing) -> bool
     ensures { result ≡ learner_at s }
 {
-    match s {
-        Standing::L => true,
-        _ => false,
-    }
+    matches!(s, Standing::L)
 }
 
 pub fn is_staged(s: Standing) -> bool
     ensures { result ≡ staged_at s }
 {
-    match s {
-        Standing::OS => true,
-        _ => false,
-    }
+    matches!(s, Standing::OS)
 }

@@ -15,20 +15,15 @@ use Rattle.rules.proofs.Sets.{apart_of, ascending-all, ascending_ext, memb-all, 
 use Rattle.rules.proofs.Check.{Passes, passes_of, each-ok, ok-each, refuse-ok}
 use Rattle.idset.specs.Set.{held, well_formed, union_of}
 use Rattle.idset.specs.declared.IdSet.{IdSet}
-use Rattle.idset.specs.declared.United.{United}
 use Rattle.idset.proofs.Bridge.{held_rises, held-set, set-formed, union_formed}
 use Rattle.tracker.specs.Bridge.{conf_of}
 use Rattle.tracker.specs.Form.{conf_well_formed}
 use Rattle.tracker.specs.declared.Configuration.{Configuration}
 use Rattle.tracker.proofs.Bridge.{Sets, conf-sets}
-use Rattle.invariants.specs.declared.Found.{Found}
+use Rattle.std.specs.Prelude.{is_none}
 use Rattle.invariants.specs.Walk.{First, nobody, first, first_in, first_out, found_of, fault_at}
 use Rattle.invariants.specs.Check.{are_members, members_in}
 use Rattle.invariants.proofs.Walk.{walk_in, walk_out, walk_each}
-
-pub members_say : (tracked : List ℕ) (c : Configuration) {u v w : United} {o : Found} → u ≡ union_of c.incoming c.outgoing → v ≡ union_of c.learners c.learners_next
-    → w ≡ union_of u.set v.set → o ≡ found_of (first_out tracked (held w.set)) → not o.some ≡ are_members tracked c
-members_say tracked c p q r e = rw (e, r, p, q)
 
 -- ** A walk that decides
 
@@ -45,10 +40,10 @@ module _ (xs ys : List ℕ) (a : ascending xs ≡ true) (b : ascending ys ≡ tr
   none_missing : each missing xs ≡ ok → xs ≡ ys
   none_missing e = ascending_ext xs ys a b (λ x. both_ways (memb x xs) (memb x ys) (λ m. not-false (memb x ys) (refuse-ok (not (memb x ys)) 1 x (each-ok missing xs e x m))) (h x))
 
-  pub walk_same : not (found_of (first_out xs ys)).some ≡ same_ids xs ys
+  pub walk_same : is_none (found_of (first_out xs ys)) ≡ same_ids xs ys
   walk_same = go (first_out xs ys) (walk_each walk_out 1 ys b xs a)
     where
-      go : (f : First) → fault_at f 1 ≡ each missing xs → not (found_of f).some ≡ same_ids xs ys
+      go : (f : First) → fault_at f 1 ≡ each missing xs → is_none (found_of f) ≡ same_ids xs ys
       go nobody e = sym (ap (same_ids xs) (sym (none_missing (sym e))) ∙ ids-same xs)
       go (first z) e = here (same_ids xs ys) refl
         where
@@ -59,13 +54,13 @@ module _ (xs ys : List ℕ) (a : ascending xs ≡ true) (b : ascending ys ≡ tr
           here false q = refl
 
 -- the walk along xs meets none in ys where the two are apart
-pub walk_apart : (xs ys : List ℕ) → ascending xs ≡ true → ascending ys ≡ true → not (found_of (first_in xs ys)).some ≡ apart xs ys
+pub walk_apart : (xs ys : List ℕ) → ascending xs ≡ true → ascending ys ≡ true → is_none (found_of (first_in xs ys)) ≡ apart xs ys
 walk_apart xs ys a b = go (first_in xs ys) (walk_each walk_in 1 ys b xs a)
   where
     shared : ℕ → Verdict
     shared x = refuse (memb x ys) 1 x
 
-    go : (f : First) → fault_at f 1 ≡ each shared xs → not (found_of f).some ≡ apart xs ys
+    go : (f : First) → fault_at f 1 ≡ each shared xs → is_none (found_of f) ≡ apart xs ys
     go nobody e = sym (apart_of xs ys (λ x m. refuse-ok (memb x ys) 1 x (each-ok shared xs (sym e) x m)))
     go (first z) e = here (apart xs ys) refl
       where

@@ -1,7 +1,7 @@
--- The four parts of the check: what each says, that their faults have numbers other than 0, and one after the other. Assumes nothing.
+-- The parts of the check: that their faults have numbers other than 0, and one after the other. Assumes nothing.
 use Prim.Native.Nat.{ℕ}
-use mathlib.Core.Path.{◌≡◌, refl, ap, ◌∙◌}
-use mathlib.Core.Bool.{Bool, true, false, ◌&&◌, not}
+use mathlib.Core.Path.{◌≡◌, refl}
+use mathlib.Core.Bool.{Bool, ◌&&◌, not}
 use mathlib.Core.List.{List}
 use Rattle.rules.specs.Answers as rules
 use Rattle.rules.specs.Answers.{refuse, ◌▸◌}
@@ -9,49 +9,9 @@ use Rattle.rules.specs.Ids.{is_empty}
 use Rattle.rules.specs.State.{Conf}
 use Rattle.tracker.specs.Apply.{verdict_of}
 use Rattle.tracker.specs.declared.Verdict.{Verdict}
-use Rattle.invariants.specs.declared.Found.{Found}
-use Rattle.invariants.specs.Walk.{First, first_out, first_in, found_of, fault_at, sooner, fault_in, sooner_of}
+use Rattle.invariants.specs.Walk.{first_out, first_in, fault_at, sooner}
 use Rattle.invariants.specs.Check.{voters_walk, learners_walk, staged_walk, single_walk, rest_walk, check_walk}
-use Rattle.invariants.proofs.Faults.{Numbered, numbered-at, numbered-refuse, numbered-sooner, numbered_then, two_numbered, fault-says, sooner-says, two_say, then_stops, then_goes}
-
--- ** What each says
-
--- 7, 11 and 12
-module _ (tracked : List ℕ) {a b : Found} {v w r : Verdict} where
-  pub voters_say : (is os : List ℕ) → a ≡ found_of (first_out is tracked) → v ≡ fault_in a 7 → b ≡ found_of (first_out os tracked) → w ≡ fault_in b 7
-      → r ≡ sooner_of v w → r ≡ verdict_of (voters_walk tracked is os)
-  voters_say is os = two_say (first_out is tracked) (first_out os tracked) 7 7 refl refl
-
-  pub staged_say : (os gs : List ℕ) → a ≡ found_of (first_out gs tracked) → v ≡ fault_in a 11 → b ≡ found_of (first_out gs os) → w ≡ fault_in b 12
-      → r ≡ sooner_of v w → r ≡ verdict_of (staged_walk tracked os gs)
-  staged_say os gs = two_say (first_out gs tracked) (first_out gs os) 11 12 refl refl
-
--- 8, 9 and 10
-pub learners_say : (tracked is os ls : List ℕ) {d a b : Found} {u v w q r : Verdict} → d ≡ found_of (first_out ls tracked) → u ≡ fault_in d 8
-    → a ≡ found_of (first_in ls os) → v ≡ fault_in a 9 → b ≡ found_of (first_in ls is) → w ≡ fault_in b 10
-    → q ≡ sooner_of v w → r ≡ sooner_of u q → r ≡ verdict_of (learners_walk tracked is os ls)
-learners_say tracked is os ls d u a v b w q r =
-    let nine : First = first_in ls os in
-    let ten : First = first_in ls is in
-    sooner-says (fault_at (first_out ls tracked) 8) (sooner (fault_at nine 9) (fault_at ten 10))
-    (numbered-at (first_out ls tracked) 8 refl) (two_numbered nine ten 9 10 refl refl)
-    (fault-says (first_out ls tracked) 8 d u) (two_say nine ten 9 10 refl refl a v b w q) r
-
--- 13 and 14: none where it is joint; else 13 where there are staged ids; else 14 where the flag is set
-module _ (j g auto : Bool) {r : Verdict} where
-  pub single-joint : j ≡ true → r ≡ fault_in (record { some = false; id = 0 }) 0 → r ≡ verdict_of (single_walk j g auto)
-  single-joint h e = e ∙ rw h
-
-  module _ (h : j ≡ false) where
-    pub single-staged : g ≡ true → r ≡ fault_in (record { some = true; id = 0 }) 13 → r ≡ verdict_of (single_walk j g auto)
-    single-staged e k = k ∙ rw (h, e)
-
-    pub single-flag : g ≡ false → r ≡ fault_in (record { some = auto; id = 0 }) 14 → r ≡ verdict_of (single_walk j g auto)
-    single-flag e k = k ∙ rw (h, e) (go auto)
-      where
-        go : (b : Bool) → fault_in (record { some = b; id = 0 }) 14 ≡ verdict_of (refuse b 14 0)
-        go true = refl
-        go false = refl
+use Rattle.invariants.proofs.Faults.{Numbered, numbered-at, numbered-refuse, numbered-sooner, numbered_then, two_numbered, then_stops, then_goes}
 
 -- ** Their numbers
 
@@ -77,15 +37,6 @@ module _ (tracked os gs : List ℕ) (auto : Bool) where
   rest-numbered =
       numbered_then (staged_walk tracked os gs) (single_walk (not (is_empty os)) (not (is_empty gs)) auto) (staged-numbered tracked os gs)
       (single-numbered (not (is_empty os)) (not (is_empty gs)) auto)
-
-  module _ {v : Verdict} (e : v ≡ verdict_of (staged_walk tracked os gs)) where
-    pub staged-stops : (v.number ≡ 0 → ⊥) → v ≡ verdict_of (rest_walk tracked os gs auto)
-    staged-stops = then_stops (staged_walk tracked os gs) (single_walk (not (is_empty os)) (not (is_empty gs)) auto) e
-
-    pub staged_goes : v.number ≡ 0 → {a b : Bool} → a ≡ is_empty os → b ≡ is_empty gs → {x : Verdict} → x ≡ verdict_of (single_walk (not a) (not b) auto) → x ≡ verdict_of (rest_walk tracked os gs auto)
-    staged_goes h {b = b} p q t =
-        then_goes (staged_walk tracked os gs) (single_walk (not (is_empty os)) (not (is_empty gs)) auto) e (staged-numbered tracked os gs) h
-        (t ∙ ap (λ (a : Bool). verdict_of (single_walk (not a) (not b) auto)) p ∙ ap (λ (b : Bool). verdict_of (single_walk (not (is_empty os)) (not b) auto)) q)
 
 module _ (tracked : List ℕ) (c : Conf) where
   pub check-numbered : Numbered (check_walk tracked c)

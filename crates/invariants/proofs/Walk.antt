@@ -1,21 +1,21 @@
 -- Walks along two ascending lists side by side, one law for both: what a turn of their loop does, and that on ascending lists a walk finds
 -- the first id that is asked for. Assumes nothing.
-use Prim.Native.Nat.{ℕ, ◌+◌, ◌≤◌, ◌<◌}
+use Prim.Native.Nat.{ℕ, suc, ◌+◌, ◌≤◌, ◌<◌}
 use mathlib.Core.Path.{◌≡◌, refl, ap, ◌∙◌, sym}
 use mathlib.Core.Bool.{Bool, true, false, not, true≢false, beq}
 use mathlib.Core.List.{List, [], ◌∷◌}
 use native.Mathlib.Omega.{arith}
 use borrow.Author.Tests.{not-true, not-false, ltb-true, ltb-false}
+use Rattle.std.specs.Prelude.{Some, None}
 use lib.Dec.{eqb, ltb}
-use lib.ListN.{length, take, drop, get_or}
-use lib.Seq.{drop-drop}
+use lib.ListN.{length, drop, get_or, drop_of_length-le}
+use lib.Seq.{drop-drop, drop-cons}
+use native.Mathlib.Numerals.{add-one}
 use Rattle.rules.specs.Answers.{each, refuse, ◌▸◌}
 use Rattle.rules.specs.Ids.{above, ascending, memb}
 use Rattle.rules.proofs.Sets.{above_none, memb_head, or-true, rising_tail}
 use Rattle.idset.specs.Places.{rank, first_is}
 use Rattle.idset.proofs.Cursor.{found_at, still_ahead}
-use Rattle.idset.proofs.Part.{part_cons, part_end, part_out}
-use Rattle.invariants.specs.declared.Found.{Found}
 use Rattle.invariants.specs.Walk.{First, nobody, first, first_out, first_in, first_where, found_of, fault_at, past}
 
 -- a walk that halts at the first of xs that it meets in ys, where met is true, or does not meet there, where it is false
@@ -51,31 +51,28 @@ told_other true false h = refl
 told_other false true h = refl
 told_other false false h = absurd (true≢false h)
 
--- it has passed i of the first m of a, and j of the first n of b
-pub record Walking (met : Bool) (m n : ℕ) (a b : List ℕ) (j i : ℕ) : Type 0 where
-  pub same : first_where met (take m a) (take n b) ≡ first_where met (drop i (take m a)) (drop j (take n b))
+-- it has passed i of xs, and j of ys
+pub record Walking (met : Bool) (xs ys : List ℕ) (j i : ℕ) : Type 0 where
+  pub same : first_where met xs ys ≡ first_where met (drop i xs) (drop j ys)
 
-module _ {met : Bool} {m n : ℕ} {a b : List ℕ} {j i : ℕ} (s : Walking met m n a b j i) where
+module _ {met : Bool} {xs ys : List ℕ} {j i : ℕ} (s : Walking met xs ys j i) where
   w : Walk met (first_where met)
   w = walk_where met
 
-  pub walk_end : m ≤ i → ◌≡◌ {A = Found} (record { some = false; id = 0 }) (found_of (first_where met (take m a) (take n b)))
-  walk_end h = rw (s.same, part_end m a i h, w.none)
+  pub walk_end : length xs ≤ i → None ≡ found_of (first_where met xs ys)
+  walk_end h = rw (s.same, drop_of_length-le xs h, w.none)
 
-  pub walk_done : length a ≤ i → ◌≡◌ {A = Found} (record { some = false; id = 0 }) (found_of (first_where met (take m a) (take n b)))
-  walk_done h = rw (s.same, part_out m a i h, w.none)
+  module _ (k : i < length xs) (r : ℕ) (e : r ≡ j + rank (get_or xs i 0) (drop j ys)) (t : Bool) (q : t ≡ first_is (get_or xs i 0) (drop r ys)) where
+    there : drop r ys ≡ past (get_or xs i 0) (drop j ys)
+    there = rw e (sym (drop-drop (rank (get_or xs i 0) (drop j ys)) j ys))
 
-  module _ (h : i < m) (k : i < length a) (r : ℕ) (e : r ≡ j + rank (get_or a i 0) (drop j (take n b))) (t : Bool) (q : t ≡ first_is (get_or a i 0) (drop r (take n b))) where
-    there : drop r (take n b) ≡ past (get_or a i 0) (drop j (take n b))
-    there = rw e (sym (drop-drop (rank (get_or a i 0) (drop j (take n b))) j (take n b)))
+    pub walk_halt : beq t met ≡ true → Some (get_or xs i 0) ≡ found_of (first_where met xs ys)
+    walk_halt g = rw (s.same, drop-cons xs i 0 k, w.halt (get_or xs i 0) (drop (suc i) xs) (drop j ys) (ap (first_is (get_or xs i 0)) (sym there) ∙ sym q ∙ told_same t met g))
 
-    pub walk_halt : beq t met ≡ true → ◌≡◌ {A = Found} (record { some = true; id = get_or a i 0 }) (found_of (first_where met (take m a) (take n b)))
-    walk_halt g = rw (s.same, part_cons m a i h k, w.halt (get_or a i 0) (drop (i + 1) (take m a)) (drop j (take n b)) (ap (first_is (get_or a i 0)) (sym there) ∙ sym q ∙ told_same t met g))
-
-    pub walk_next : beq t met ≡ false → Walking met m n a b r (i + 1)
+    pub walk_next : beq t met ≡ false → Walking met xs ys r (i + 1)
     walk_next g =
         record {
-          same = s.same ∙ rw (part_cons m a i h k, w.pass (get_or a i 0) (drop (i + 1) (take m a)) (drop j (take n b)) (ap (first_is (get_or a i 0)) (sym there) ∙ sym q ∙ told_other t met g), there);
+          same = s.same ∙ rw (drop-cons xs i 0 k, w.pass (get_or xs i 0) (drop (suc i) xs) (drop j ys) (ap (first_is (get_or xs i 0)) (sym there) ∙ sym q ∙ told_other t met g), there, add-one);
         }
 
 -- ** What it finds

@@ -1,5 +1,5 @@
 -- The check as walks along ascending sets: on well-formed sets it is the rules' check (proofs/Checks.antt); and in order. Assumes nothing.
-use Rattle.std.specs.Prelude.{ℕ, Bool, ◌&&◌, not, cond, List}
+use Rattle.std.specs.Prelude.{ℕ, Bool, ◌&&◌, not, cond, List, is_none}
 use Rattle.rules.specs.Ids.{is_empty}
 use Rattle.rules.specs.State.{Conf}
 use Rattle.rules.specs.Answers as rules
@@ -51,11 +51,11 @@ members_in c = (union_of (union_of c.incoming c.outgoing).set (union_of c.learne
 
 -- a walk along the members meets each tracked id
 abbrev pub are_members : List ℕ → Configuration → Bool
-are_members tracked c = not (found_of (first_out tracked (held (members_in c)))).some
+are_members tracked c = is_none (found_of (first_out tracked (held (members_in c))))
 
 -- a walk along the incoming voters meets no staged id
 abbrev pub are_apart : Conf → Bool
-are_apart c = not (found_of (first_in c.staged c.incoming)).some
+are_apart c = is_none (found_of (first_in c.staged c.incoming))
 
 -- the check of any state, through the bridge: 1 where it is malformed
 unfoldable pub check_of : Tracker → Verdict

@@ -1,19 +1,18 @@
 -- Two ascending lists walked side by side, looking for the first id that is, or is not, in both. Assumes nothing.
-use Rattle.std.specs.Prelude.{ℕ, Bool, true, false, cond, List, [], ◌∷◌, eqb, ltb, drop}
+use Rattle.std.specs.Prelude.{Option, Some, None, ℕ, Bool, true, false, cond, List, [], ◌∷◌, eqb, ltb, drop}
 use Rattle.rules.specs.Answers as rules
 use Rattle.rules.specs.Answers.{ok, fault}
 use Rattle.idset.specs.Places.{rank, first_is}
 use Rattle.tracker.specs.declared.Verdict.{Verdict}
-use Rattle.invariants.specs.declared.Found.{Found}
 
 -- an id, or none
 pub data First : Type 0 where
   nobody : First
   first : ℕ → First
 
-abbrev pub found_of : First → Found
-found_of nobody = record { some = false; id = 0 }
-found_of (first x) = record { some = true; id = x }
+abbrev pub found_of : First → Option ℕ
+found_of nobody = None
+found_of (first x) = Some x
 
 -- what is left of ys once those less than x are passed
 abbrev pub past : ℕ → List ℕ → List ℕ
@@ -47,8 +46,9 @@ sooner (fault n x) (fault m y) = cond (ltb y x) (fault m y) (fault n x)
 
 -- ** The same on structs
 
-abbrev pub fault_in : Found → ℕ → Verdict
-fault_in f n = cond f.some (record { number = n; id = f.id }) (record { number = 0; id = 0 })
+abbrev pub fault_in : Option ℕ → ℕ → Verdict
+fault_in None n = record { number = 0; id = 0 }
+fault_in (Some x) n = record { number = n; id = x }
 
 abbrev pub sooner_of : Verdict → Verdict → Verdict
 sooner_of v w = cond (eqb v.number 0) w (cond (eqb w.number 0) v (cond (ltb w.id v.id) w v))

@@ -12,12 +12,11 @@ ghost use Rattle.invariants.specs.Check.{voters_walk, learners_walk, staged_walk
 use idset::IdSet;
 use tracker::{Configuration, Tracker, Verdict, numbers};
 
-// The first id that a walk was looking for, if there is one.
-#[derive(Clone, Copy)]
-pub struct Found {
-    pub some: bool,
-    pub id: u64,
-}
+// No fault.
+const ACCEPTED: Verdict = Verdict {
+    number: numbers::ACCEPTED,
+    id: 0,
+};
 
 // Whether the configuration is joint.
 pub fn joint(conf: Configuration) -> bool
@@ -27,29 +26,47 @@ pub fn joint(conf: Configuration) -> bool
 }
 
 // Makes sure that the config and progress are compatible with each other: the first fault, in the order of document 01.
+#[tactic(auto, unfolding(crate::specs::Check::check_walk))]
 pub fn check_invariants(conf: Configuration, ids: IdSet) -> Verdict
     ensures { result ≡ verdict_of (check_walk (held ids) (conf_of conf)) }
 {
-    let a = conf.incoming;
-    let b = conf.outgoing;
-    let c = conf.learners;
-    let d = conf.learners_next;
-    let v = check_voters(&a.ids, a.len, &b.ids, b.len, &ids.ids, ids.len);
+    let Configuration {
+        incoming,
+        outgoing,
+        learners,
+        learners_next: staged,
+        auto_leave,
+    } = conf;
+    let v = check_voters(
+        &incoming.ids,
+        incoming.len,
+        &outgoing.ids,
+        outgoing.len,
+        &ids.ids,
+        ids.len,
+    );
     if v.number != numbers::ACCEPTED {
         return v;
     }
     let v = check_learners(
-        &c.ids, c.len, &b.ids, b.len, &a.ids, a.len, &ids.ids, ids.len,
+        &learners.ids,
+        learners.len,
+        &outgoing.ids,
+        outgoing.len,
+        &incoming.ids,
+        incoming.len,
+        &ids.ids,
+        ids.len,
     );
     if v.number != numbers::ACCEPTED {
         return v;
     }
     check_staged(
-        &d.ids,
-        d.len,
-        &b.ids,
-        b.len,
-        conf.auto_leave,
+        &staged.ids,
+        staged.len,
+        &outgoing.ids,
+        outgoing.len,
+        auto_leave,
         &ids.ids,
         ids.len,
     )
@@ -157,30 +174,30 @@ fn check_single(is_joint: bool, staged: bool, auto_leave: bool) -> Verdict
     ensures { result ≡ verdict_of (single_walk is_joint staged auto_leave) }
 {
     if is_joint {
-        return fault(Found { some: false, id: 0 }, numbers::ACCEPTED);
+        return ACCEPTED;
     }
     if staged {
-        return fault(Found { some: true, id: 0 }, numbers::STAGED_WHILE_NOT_JOINT);
-    }
-    fault(
-        Found {
-            some: auto_leave,
+        return Verdict {
+            number: numbers::STAGED_WHILE_NOT_JOINT,
             id: 0,
-        },
-        numbers::AUTO_LEAVE_WHILE_NOT_JOINT,
-    )
+        };
+    }
+    if auto_leave {
+        return Verdict {
+            number: numbers::AUTO_LEAVE_WHILE_NOT_JOINT,
+            id: 0,
+        };
+    }
+    ACCEPTED
 }
 
 // The fault of this number at the id found, if one was.
-fn fault(f: Found, number: u64) -> Verdict
-    ensures { result ≡ fault_in f number }
+fn fault(found: Option<u64>, number: u64) -> Verdict
+    ensures { result ≡ fault_in found number }
 {
-    if f.some {
-        return Verdict { number, id: f.id };
-    }
-    Verdict {
-        number: numbers::ACCEPTED,
-        id: 0,
+    match found {
+        Some(id) => Verdict { number, id },
+        None => ACCEPTED,
     }
 }
 
@@ -202,26 +219,21 @@ fn sooner(v: Verdict, w: Verdict) -> Verdict
 
 // The first of the first `m` of `a` that is among the first `n` of `b`, where `among` is true, or is not, where it is false; both ascending and walked
 // side by side.
-pub fn first_where<'a>(a: &'a [u64], m: usize, b: &'a [u64], n: usize, among: bool) -> Found
+pub fn first_where<'a>(a: &'a [u64], m: usize, b: &'a [u64], n: usize, among: bool) -> Option<u64>
     ensures { result ≡ found_of (first_where among (take m a.now) (take n b.now)) }
 {
-    let mut j = 0;
-    let mut i = 0;
-    while i < a.len() {
-        if m <= i {
-            return Found { some: false, id: 0 };
+    let mut place = 0;
+    for &id in &a[..m.min(a.len())] {
+        place = idset::seek(b, n, place, id);
+        if idset::stands_at(b, n, place, id) == among {
+            return Some(id);
         }
-        let id = a[i];
-        j = idset::seek(b, n, j, id);
-        if idset::stands_at(b, n, j, id) == among {
-            return Found { some: true, id };
-        }
-        i += 1;
     }
-    Found { some: false, id: 0 }
+    None
 }
 
 // The check, asked of any state: 1 first.
+#[tactic(auto, using(crate::proofs::Order::check_walks))]
 pub fn check(t: Tracker) -> Verdict
     ensures { result ≡ check_of t }
 {
@@ -231,49 +243,36 @@ pub fn check(t: Tracker) -> Verdict
             id: 0,
         };
     }
-    let conf = t.conf;
-    let ids = t.ids;
-    check_invariants(conf, ids)
+    check_invariants(t.conf, t.ids)
 }
 
 // In order: well formed, passes the check, no id 0 anywhere, tracked ids exactly those in at least one of the four sets, no staged id an incoming
 // voter.
+#[tactic(auto, using(crate::proofs::Order::order_walks))]
 pub fn in_order(t: Tracker) -> bool
     ensures { result ≡ in_order_of t }
 {
-    let v = check(t);
-    if v.number != numbers::ACCEPTED {
-        return false;
-    }
-    let conf = t.conf;
-    let ids = t.ids;
-    if ids.contains(0) {
-        return false;
-    }
-    if !are_members(conf, ids) {
-        return false;
-    }
-    are_apart(conf)
+    check(t).number == numbers::ACCEPTED
+        && !t.ids.contains(0)
+        && are_members(t.conf, t.ids)
+        && are_apart(t.conf)
 }
 
 // Whether all of the tracked ids are in at least one of the four sets: a walk along their union.
 fn are_members(conf: Configuration, ids: IdSet) -> bool
     ensures { result ≡ are_members (held ids) conf }
 {
-    let voters = conf.incoming.union(conf.outgoing);
-    let others = conf.learners.union(conf.learners_next);
-    let all = voters.set.union(others.set);
-    let members = all.set;
-    let out = first_where(&ids.ids, ids.len, &members.ids, members.len, false);
-    !out.some
+    let voters = conf.incoming.union(conf.outgoing).set;
+    let others = conf.learners.union(conf.learners_next).set;
+    let members = voters.union(others).set;
+    first_where(&ids.ids, ids.len, &members.ids, members.len, false).is_none()
 }
 
 // Whether no staged id is an incoming voter: a walk along both sets.
 fn are_apart(conf: Configuration) -> bool
     ensures { result ≡ are_apart (conf_of conf) }
 {
-    let a = conf.learners_next;
-    let b = conf.incoming;
-    let both = first_where(&a.ids, a.len, &b.ids, b.len, true);
-    !both.some
+    let staged = conf.learners_next;
+    let incoming = conf.incoming;
+    first_where(&staged.ids, staged.len, &incoming.ids, incoming.len, true).is_none()
 }

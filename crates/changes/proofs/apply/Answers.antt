@@ -1,24 +1,25 @@
--- `changes::apply` meets its contract. The loop's invariant: what is left of the list, carried out from `v`, answers for all. The measure is what
--- is left of `ids`. Assumes nothing.
-use mathlib.Core.Path.{refl}
-use native.Mathlib.Omega.{arith}
-use Rattle.changes.proofs.Run.{run_end, run_short, run-full, run-next}
+-- `changes::apply` meets its contract. `zip_turn` says which id and kind an iteration has, `zip_end` how many there were. Assumes nothing.
+use borrow.Author.Rules.{rules}
+use lib.ListN.{length-append}
+use mathlib.Core.List.{[], ◌∷◌}
+use Rattle.std.proofs.lemmas.Slice.Zip.{zip_turn, zip_end}
+use Rattle.changes.proofs.Run.{run_end, run-full, run-next}
 use Rattle.changes.proofs.apply.Goals as goal
 
-pub loop-i-init : goal.loop-i-init
-loop-i-init c = record { same = refl }
+pub returns-then-work : goal.returns-then-work
+returns-then-work c =
+    let l = c.loop-id in
+    let t = zip_turn c.args.ids.now c.args.kinds.now l.yielded c.into_iter-id-iterator.result l.id-iterator c.next.new.self c.next.result (search rules) (search rules) l.yielded_by (c.in-Some.id, c.in-Some.kind) c.in-Some.is c.next.ensures.steps in
+    run-full l.invariant t c.kind_of.ensures c.change-work.ensures c.if-work.true
 
-pub returns-then-kinds-i : goal.returns-then-kinds-i
-returns-then-kinds-i c = run_short c.loop-i.invariant c.if-kinds-i.true
-
-pub returns-then-v : goal.returns-then-v
-returns-then-v c = run-full c.loop-i.invariant c.loop-i-test.true c.if-kinds-i.false _ _ c.kind_of.ensures c.change-v.ensures c.if-v.true
-
-pub overflow_add-i : goal.overflow_add-i
-overflow_add-i c = omega (arith, c)
-
-pub loop-i-preserved : goal.loop-i-preserved
-loop-i-preserved c = run-next c.loop-i.invariant c.loop-i-test.true c.if-kinds-i.false _ _ c.kind_of.ensures c.change-v.ensures c.if-v.false
+pub loop-id-preserved : goal.loop-id-preserved
+loop-id-preserved c =
+    let l = c.loop-id in
+    let t = zip_turn c.args.ids.now c.args.kinds.now l.yielded c.into_iter-id-iterator.result l.id-iterator c.next.new.self c.next.result (search rules) (search rules) l.yielded_by (c.in-Some.id, c.in-Some.kind) c.in-Some.is c.next.ensures.steps in
+    run-next l.invariant t c.kind_of.ensures c.change-work.ensures c.if-work.false _ (length-append l.yielded ((c.in-Some.id, c.in-Some.kind) ∷ []))
 
 pub returns : goal.returns
-returns c = run_end c.loop-i.invariant c.loop-i-test.false
+returns c =
+    let l = c.loop-id in
+    run_end l.invariant
+    (zip_end c.args.ids.now c.args.kinds.now l.yielded c.into_iter-id-iterator.result l.id-iterator c.next.new.self c.next.result (search rules) (search rules) l.yielded_by c.in-None.is c.next.ensures.steps)

@@ -1,12 +1,8 @@
 -- `invariants::first_where` meets its contract. The loop's invariant: the walk along what is left of both lists finds what the whole walk
--- finds. The measure is what is left of `a`. Assumes nothing.
-use Prim.Native.Nat.{◌-◌}
-use lib.ListN.{length}
+-- finds. Assumes nothing.
+use lib.ListN.{take}
 use Rattle.invariants.proofs.Walk.{Walking}
 use Rattle.invariants.proofs.first_where.Given as goal
 
-abbrev pub invariant-loop-i : goal.invariant-loop-i
-invariant-loop-i l = Walking l.among l.m l.n l.a l.b l.j l.i
-
-abbrev pub decreases-loop-i : goal.decreases-loop-i
-decreases-loop-i l = length l.a - l.i
+abbrev pub invariant-loop-id : goal.invariant-loop-id
+invariant-loop-id l = Walking l.among l.id-items (take l.n l.b) l.place l.id-index

@@ -1,6 +1,8 @@
--- `changes::pending::tracked_in` meets its contract: all of the base is asked, then the log. Assumes nothing.
-use lib.Seq.{take-length}
+-- `changes::pending::tracked_in` meets its contract: the base is asked, then the log. Assumes nothing.
+use lib.ListN.{take}
+use Rattle.changes.proofs.Log.{memb_any, says_fold}
 use Rattle.changes.proofs.pending.tracked_in.Goals as goal
 
 pub returns : goal.returns
-returns c = rw (c.contains_in-known.ensures, take-length) at c.says.ensures
+returns c = let a = c.args in
+    rw (← says_fold a.id (take a.count a.log.entries), ← memb_any a.id a.base.now, ← c.contains.ensures.value) c.says.ensures
