@@ -1,22 +1,18 @@
 -- The calls as the code makes them, one stage after the other: at each place where the code returns, what it returns is what the call answers.
 -- Assumes nothing.
 use Prim.Native.Nat.{ℕ}
-use mathlib.Core.Path.{◌≡◌, refl, ◌∙◌}
+use mathlib.Core.Path.{◌≡◌, ◌∙◌}
 use mathlib.Core.Bool.{Bool, true, false, cond}
 use mathlib.Core.List.{List}
 use borrow.Author.Tests.{eq-eqb, ne_eqb}
 use Rattle.idset.specs.Places.{two_apart}
 use Rattle.idset.specs.Set.{held}
-use Rattle.idset.specs.declared.IdSet.{IdSet}
-use Rattle.tracker.specs.Apply.{verdict_of}
-use Rattle.tracker.specs.Bridge.{conf_of, log_of}
 use Rattle.tracker.specs.declared.Configuration.{Configuration}
 use Rattle.tracker.specs.declared.Tracker.{Tracker}
 use Rattle.tracker.specs.declared.Verdict.{Verdict}
-use Rattle.invariants.specs.Check.{check_walk}
 use Rattle.changer.specs.Calls.{enter_answer, leave_answer, simple_answer}
 use Rattle.changer.specs.Before.{may_enter, may_leave, may_simple}
-use Rattle.changer.specs.Stages.{again_in, carried_in, enter_in, entering_in, given, leave_in, leaving_in, pending_in, refused_in, simple_in, then_on, with_auto_in}
+use Rattle.changer.specs.Stages.{again_in, carried_in, enter_in, entering_in, given, leave_in, leaving_in, refused_in, simple_in, then_on, with_auto_in}
 use Rattle.changer.specs.declared.Answer.{Answer}
 use Rattle.changer.proofs.Same.{enter-same, leave_same, simple-same}
 
@@ -35,18 +31,6 @@ module _ (c : Configuration) (on : Answer → Answer) {u a : Answer} (e : a ≡ 
 
   on_goes : a.number ≡ 0 → r ≡ on a → r ≡ then_on c u (on u)
   on_goes h k = k ∙ rw (← e, eq-eqb _ _ h)
-
--- ** The check again
-
-module _ (tracked ids : IdSet) (c : Configuration) (a : Answer) (p : ids ≡ pending_in (log_of a.log) tracked) {v : Verdict} (e : v ≡ verdict_of (check_walk (held ids) (conf_of a.conf))) where
-  same_check : v ≡ verdict_of (check_walk (held (pending_in (log_of a.log) tracked)) (conf_of a.conf))
-  same_check = e ∙ rw p
-
-  pub again_stops : (v.number ≡ 0 → ⊥) → {r : Answer} → r ≡ refused_in c v.number v.id → r ≡ again_in tracked c a
-  again_stops h k = given-stops c a same_check h k
-
-  pub again_goes : v.number ≡ 0 → a ≡ again_in tracked c a
-  again_goes h = given_goes c a same_check h refl
 
 -- ** simple
 

@@ -8,8 +8,8 @@ pub mod Same
 pub mod View
 pub mod Unplug
 pub mod Above
+pub mod Taken
 pub mod Tests
 pub mod Tracked
 pub mod Removed
-pub mod Listed
 pub mod Called

@@ -4,6 +4,8 @@ use Prim.Native.Nat.{ℕ, ◌≤◌, ◌<◌}
 use mathlib.Core.Path.{◌≡◌, ◌∙◌, sym}
 use mathlib.Core.Bool.{Bool, true, false, not}
 use mathlib.Core.List.{List}
+use mathlib.Core.Logic.{◌⊎◌, inl, inr}
+use Rattle.std.proofs.Math.Bool.{or-true}
 use borrow.Author.Tests.{eq-eqb, ne_eqb, lt-ltb, le-ltb, not-true, not-false}
 use lib.ListN.{length}
 use Rattle.rules.specs.Answers as rules
@@ -40,21 +42,17 @@ unfolding readable
 by-kinds xs ks h k p = rw (eq-eqb _ _ h, le-ltb _ _ k, p) (each-kind ks)
 
 module _ (xs ks : List ℕ) {r : Verdict} where
-  pub reads_uneven : (length xs ≡ length ks → ⊥) → r ≡ said 2 → r ≡ readable_in xs ks
+  pub reads-long : ((length xs ≡ length ks → ⊥) ⊎ (256 < length xs)) → r ≡ said 2 → r ≡ readable_in xs ks
   unfolding readable
-  reads_uneven h e = e ∙ rw (ne_eqb _ _ h)
+  reads-long (inl h) e = e ∙ rw (ne_eqb _ _ h)
+  reads-long (inr k) e = e ∙ rw (lt-ltb _ _ k, or-true)
 
-  module _ (h : length xs ≡ length ks) where
-    pub reads-long : 256 < length xs → r ≡ said 2 → r ≡ readable_in xs ks
-    unfolding readable
-    reads-long k e = e ∙ rw (eq-eqb _ _ h, lt-ltb _ _ k)
+  module _ (h : length xs ≡ length ks) (k : length xs ≤ 256) {a : Bool} (p : a ≡ any_above2 ks) where
+    pub reads-above : a ≡ true → r ≡ said 3 → r ≡ readable_in xs ks
+    reads-above g e = e ∙ rw (by-kinds xs ks h k p, g)
 
-    module _ (k : length xs ≤ 256) {a : Bool} (p : a ≡ any_above2 ks) where
-      pub reads-above : a ≡ true → r ≡ said 3 → r ≡ readable_in xs ks
-      reads-above g e = e ∙ rw (by-kinds xs ks h k p, g)
-
-      pub reads_well : a ≡ false → r ≡ said 0 → r ≡ readable_in xs ks
-      reads_well g e = e ∙ rw (by-kinds xs ks h k p, g)
+    pub reads_well : a ≡ false → r ≡ said 0 → r ≡ readable_in xs ks
+    reads_well g e = e ∙ rw (by-kinds xs ks h k p, g)
 
 -- ** After 1: 2 and 3, then 4 or 6, and what is tested then
 
@@ -75,15 +73,6 @@ module _ (t : Tracker) {b : Bool} (q : b ≡ not (tracker_well_formed t)) (f : b
 
     pub single_goes : j ≡ false → r ≡ verdict_of v → r ≡ formed_then t (readable xs ks ▸ single t n ▸ v)
     single_goes g k = reads_then (k ∙ rw (← p, g))
-
--- ** 5, and what is tested then
-
-module _ (t : Tracker) {b : Bool} (q : b ≡ not (tracker_well_formed t)) (f : b ≡ false) {j : Bool} (p : j ≡ joint (conf_of t.conf)) (v : rules.Verdict) {r : Verdict} where
-  pub joint_goes : j ≡ true → r ≡ verdict_of v → r ≡ formed_then t (refuse (not (joint (conf_of t.conf))) 5 0 ▸ v)
-  joint_goes g e = well_formed_lem t (refuse (not (joint (conf_of t.conf))) 5 0 ▸ v) q f (e ∙ rw (← p, g))
-
-  pub joint-refuses : j ≡ false → r ≡ said 5 → r ≡ formed_then t (refuse (not (joint (conf_of t.conf))) 5 0 ▸ v)
-  joint-refuses g e = well_formed_lem t (refuse (not (joint (conf_of t.conf))) 5 0 ▸ v) q f (e ∙ rw (← p, g))
 
 -- ** The last test
 

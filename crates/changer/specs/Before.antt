@@ -1,5 +1,6 @@
 -- The tests before the changes, on structs: 1, 2, 3; then 4, 5 or 6; the check; 15. Assumes nothing.
-use Rattle.std.specs.Prelude.{ℕ, Bool, false, ◌||◌, not, cond, List, [], ◌∷◌, ltb}
+use Rattle.std.specs.Prelude.{ℕ, Bool, not, cond, List, ltb}
+use Rattle.std.specs.List.{list_any}
 use Rattle.rules.specs.Ids.{is_empty}
 use Rattle.rules.specs.Answers as rules
 use Rattle.rules.specs.Answers.{fault, refuse, ◌▸◌}
@@ -27,9 +28,8 @@ abbrev pub readable_in : List ℕ → List ℕ → Verdict
 readable_in ids kinds = verdict_of (readable ids kinds)
 
 -- a kind above 2
-unfoldable pub any_above2 : List ℕ → Bool
-any_above2 [] = false
-any_above2 (k ∷ ks) = ltb 2 k || any_above2 ks
+abbrev pub any_above2 : List ℕ → Bool
+any_above2 ks = list_any (λ k. ltb 2 k) ks
 
 -- 1, 2, 3; 4; the check; 15
 abbrev pub may_enter : Tracker → List ℕ → List ℕ → Verdict

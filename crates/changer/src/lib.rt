@@ -34,18 +34,16 @@ pub struct Answer {
 pub fn enter_joint<'a>(t: Tracker, auto_leave: bool, ids: &'a [u64], kinds: &'a [u8]) -> Answer
     ensures { result ≡ enter_answer t auto_leave ids.now kinds.now }
 {
-    let conf = t.conf;
-    let tracked = t.ids;
-    let v = may_enter(t, ids, kinds);
-    if v.number != numbers::ACCEPTED {
-        return refused(conf, v.number, v.id);
+    let verdict = may_enter(t, ids, kinds);
+    if verdict.number != numbers::ACCEPTED {
+        return refused(t.conf, verdict.number, verdict.id);
     }
-    let mut a = carry_out(tracked, entering(conf), ids, kinds);
-    if a.number != numbers::ACCEPTED {
-        return refused(conf, a.number, a.id);
+    let mut answer = carry_out(t.ids, entering(t.conf), ids, kinds);
+    if answer.number != numbers::ACCEPTED {
+        return refused(t.conf, answer.number, answer.id);
     }
-    a.conf.auto_leave = auto_leave;
-    check_again(tracked, conf, a)
+    answer.conf.auto_leave = auto_leave;
+    check_again(t.ids, t.conf, answer)
 }
 
 // Transitions out of a joint configuration: the outgoing majority config is removed, that is, the incoming config is promoted as the sole
@@ -54,13 +52,11 @@ pub fn enter_joint<'a>(t: Tracker, auto_leave: bool, ids: &'a [u64], kinds: &'a 
 pub fn leave_joint(t: Tracker) -> Answer
     ensures { result ≡ leave_answer t }
 {
-    let conf = t.conf;
-    let tracked = t.ids;
-    let v = may_leave(t);
-    if v.number != numbers::ACCEPTED {
-        return refused(conf, v.number, v.id);
+    let verdict = may_leave(t);
+    if verdict.number != numbers::ACCEPTED {
+        return refused(t.conf, verdict.number, verdict.id);
     }
-    check_again(tracked, conf, leave(conf))
+    check_again(t.ids, t.conf, leave(t.conf))
 }
 
 // Carries out a series of configuration changes that (in aggregate) mutates the incoming majority config by at most one. It is refused if that
@@ -68,49 +64,43 @@ pub fn leave_joint(t: Tracker) -> Answer
 pub fn simple<'a>(t: Tracker, ids: &'a [u64], kinds: &'a [u8]) -> Answer
     ensures { result ≡ simple_answer t ids.now kinds.now }
 {
-    let conf = t.conf;
-    let tracked = t.ids;
-    let v = may_simple(t, ids, kinds);
-    if v.number != numbers::ACCEPTED {
-        return refused(conf, v.number, v.id);
+    let verdict = may_simple(t, ids, kinds);
+    if verdict.number != numbers::ACCEPTED {
+        return refused(t.conf, verdict.number, verdict.id);
     }
-    let a = carry_out(tracked, conf, ids, kinds);
-    if a.number != numbers::ACCEPTED {
-        return refused(conf, a.number, a.id);
+    let answer = carry_out(t.ids, t.conf, ids, kinds);
+    if answer.number != numbers::ACCEPTED {
+        return refused(t.conf, answer.number, answer.id);
     }
     if idset::two_apart(
-        &a.conf.incoming.ids,
-        a.conf.incoming.len,
-        &conf.incoming.ids,
-        conf.incoming.len,
+        &answer.conf.incoming.ids,
+        answer.conf.incoming.len,
+        &t.conf.incoming.ids,
+        t.conf.incoming.len,
     ) {
-        return refused(conf, numbers::TWO_VOTERS_CHANGED, 0);
+        return refused(t.conf, numbers::TWO_VOTERS_CHANGED, 0);
     }
-    check_again(tracked, conf, a)
+    check_again(t.ids, t.conf, answer)
 }
 
 // A refusal: the configuration given, and an empty log.
 fn refused(conf: Configuration, number: u64, id: u64) -> Answer
     ensures { result ≡ refused_in conf number id }
 {
-    let log = ChangeLog::new();
     Answer {
         number,
         id,
         conf,
-        log,
+        log: ChangeLog::new(),
         idle: 0,
     }
 }
 
 // 2, 3.
-fn readable<'a>(ids: &'a [u64], kinds: &'a [u8]) -> Verdict
+fn readable(ids: &[u64], kinds: &[u8]) -> Verdict
     ensures { result ≡ readable_in ids.now kinds.now }
 {
-    if ids.len() != kinds.len() {
-        return verdict(numbers::LIST_TOO_LONG);
-    }
-    if changes::MAX_CHANGES < ids.len() {
+    if ids.len() != kinds.len() || changes::MAX_CHANGES < ids.len() {
         return verdict(numbers::LIST_TOO_LONG);
     }
     if above_2(kinds) {
@@ -129,37 +119,28 @@ fn verdict(number: u64) -> Verdict
 fn above_2(kinds: &[u8]) -> bool
     ensures { result ≡ any_above2 kinds.now }
 {
-    let mut i = 0;
-    while i < kinds.len() {
-        if 2 < kinds[i] {
-            return true;
-        }
-        i += 1;
-    }
-    false
+    kinds.iter().any(|kind| 2 < *kind)
 }
 
 // 1, 2, 3; 4; the check; 15.
-fn may_enter<'a>(t: Tracker, ids: &'a [u64], kinds: &'a [u8]) -> Verdict
+fn may_enter(t: Tracker, ids: &[u64], kinds: &[u8]) -> Verdict
     ensures { result ≡ may_enter t ids.now kinds.now }
 {
-    let conf = t.conf;
-    let tracked = t.ids;
     if t.is_malformed() {
         return verdict(numbers::MALFORMED);
     }
-    let v = readable(ids, kinds);
-    if v.number != numbers::ACCEPTED {
-        return v;
+    let list = readable(ids, kinds);
+    if list.number != numbers::ACCEPTED {
+        return list;
     }
-    if joint(conf) {
+    if joint(t.conf) {
         return verdict(numbers::ALREADY_JOINT);
     }
-    let v = check_invariants(conf, tracked);
-    if v.number != numbers::ACCEPTED {
-        return v;
+    let state = check_invariants(t.conf, t.ids);
+    if state.number != numbers::ACCEPTED {
+        return state;
     }
-    if conf.incoming.is_empty() {
+    if t.conf.incoming.is_empty() {
         // We allow adding nodes to an empty config for convenience (testing and bootstrap), but you can't enter a joint state.
         return verdict(numbers::ENTER_WITHOUT_VOTER);
     }
@@ -173,66 +154,59 @@ fn may_leave(t: Tracker) -> Verdict
     if t.is_malformed() {
         return verdict(numbers::MALFORMED);
     }
-    let conf = t.conf;
-    if joint(conf) {
-        return check_invariants(conf, t.ids);
+    if !joint(t.conf) {
+        return verdict(numbers::NOT_JOINT);
     }
-    verdict(numbers::NOT_JOINT)
+    check_invariants(t.conf, t.ids)
 }
 
 // 1, 2, 3; 6; the check.
-fn may_simple<'a>(t: Tracker, ids: &'a [u64], kinds: &'a [u8]) -> Verdict
+fn may_simple(t: Tracker, ids: &[u64], kinds: &[u8]) -> Verdict
     ensures { result ≡ may_simple t ids.now kinds.now }
 {
-    let conf = t.conf;
-    let tracked = t.ids;
     if t.is_malformed() {
         return verdict(numbers::MALFORMED);
     }
-    let v = readable(ids, kinds);
-    if v.number != numbers::ACCEPTED {
-        return v;
+    let list = readable(ids, kinds);
+    if list.number != numbers::ACCEPTED {
+        return list;
     }
-    if joint(conf) {
+    if joint(t.conf) {
         return verdict(numbers::SIMPLE_WHILE_JOINT);
     }
-    check_invariants(conf, tracked)
+    check_invariants(t.conf, t.ids)
 }
 
 // Outgoing a copy of incoming.
 fn entering(conf: Configuration) -> Configuration
     ensures { result ≡ entering_in conf }
 {
-    let mut c = conf;
-    let incoming = conf.incoming;
-    c.outgoing = incoming;
-    c
+    let mut entered = conf;
+    entered.outgoing = conf.incoming;
+    entered
 }
 
 // The changes, stopping at the first 16; 17.
-fn carry_out<'a>(tracked: IdSet, conf: Configuration, ids: &'a [u64], kinds: &'a [u8]) -> Answer
+fn carry_out(tracked: IdSet, conf: Configuration, ids: &[u64], kinds: &[u8]) -> Answer
     ensures { result ≡ carried_in tracked conf ids.now kinds.now }
 {
-    let n = least(tracked.len);
-    let log = ChangeLog::new();
+    let n = tracked.len.min(IdSet::CAPACITY);
     let start = Work {
         conf,
-        log,
+        log: ChangeLog::new(),
         tracked: n,
         idle: 0,
         full: false,
         id: 0,
     };
-    let base = tracked.ids;
-    let w = changes::apply(start, &base[..n], ids, kinds);
-    if w.full {
-        return refused(conf, numbers::NO_ROOM, w.id);
+    let work = changes::apply(start, &tracked.ids[..n], ids, kinds);
+    if work.full {
+        return refused(conf, numbers::NO_ROOM, work.id);
     }
-    let new = w.conf;
-    if new.incoming.is_empty() {
+    if work.conf.incoming.is_empty() {
         return refused(conf, numbers::NO_VOTER_LEFT, 0);
     }
-    accepted(new, w.log, w.idle)
+    accepted(work.conf, work.log, work.idle)
 }
 
 fn accepted(conf: Configuration, log: ChangeLog, idle: usize) -> Answer
@@ -247,28 +221,15 @@ fn accepted(conf: Configuration, log: ChangeLog, idle: usize) -> Answer
     }
 }
 
-// A count as far as there are places.
-fn least(n: usize) -> usize
-    ensures { result ≡ min n 64 }
-{
-    if n < IdSet::CAPACITY {
-        n
-    } else {
-        IdSet::CAPACITY
-    }
-}
-
 // The check again, of what is answered: with the ids that are tracked once the log is applied. A fault refuses, with the configuration given.
-fn check_again(tracked: IdSet, given: Configuration, a: Answer) -> Answer
-    ensures { result ≡ again_in tracked given a }
+fn check_again(tracked: IdSet, given: Configuration, answer: Answer) -> Answer
+    ensures { result ≡ again_in tracked given answer }
 {
-    let conf = a.conf;
-    let log = a.log;
-    let v = check_invariants(conf, tracked_after(tracked, log));
-    if v.number != numbers::ACCEPTED {
-        return refused(given, v.number, v.id);
+    let verdict = check_invariants(answer.conf, tracked_after(tracked, answer.log));
+    if verdict.number != numbers::ACCEPTED {
+        return refused(given, verdict.number, verdict.id);
     }
-    a
+    answer
 }
 
 // The tracked ids with the log over them.
@@ -276,32 +237,18 @@ fn tracked_after(tracked: IdSet, log: ChangeLog) -> IdSet
     ensures { result ≡ pending_in (log_of log) tracked }
 {
     let mut ids = tracked;
-    let n = log.count;
-    let mut i = 0;
-    while i < ChangeLog::CAPACITY {
-        if n <= i {
-            return ids;
-        }
-        let e = log.entries[i];
-        ids = tracked_then(ids, e);
-        i += 1;
+    for entry in log.entries.iter().take(log.count) {
+        ids = tracked_then(ids, *entry);
     }
     ids
 }
 
-fn tracked_then(ids: IdSet, e: MapChange) -> IdSet
-    ensures { result ≡ pending_one (entry_of e) ids }
+fn tracked_then(ids: IdSet, entry: MapChange) -> IdSet
+    ensures { result ≡ pending_one (entry_of entry) ids }
 {
-    let kind = e.kind;
-    match kind {
-        MapChangeType::Add => {
-            let more = ids.insert(e.id);
-            more.set
-        }
-        MapChangeType::Remove => {
-            let less = ids.remove(e.id);
-            less.set
-        }
+    match entry.kind {
+        MapChangeType::Add => ids.insert(entry.id).set,
+        MapChangeType::Remove => ids.remove(entry.id).set,
     }
 }
 
@@ -310,13 +257,11 @@ fn tracked_then(ids: IdSet, e: MapChange) -> IdSet
 fn leave(conf: Configuration) -> Answer
     ensures { result ≡ leaving_in conf }
 {
-    let joined = conf.learners_next.union(conf.learners);
-    let learners = joined.set;
-    let incoming = conf.incoming;
-    let log = removals(conf.outgoing, incoming, learners);
+    let learners = conf.learners_next.union(conf.learners).set;
+    let log = removals(conf.outgoing, conf.incoming, learners);
     let none = IdSet::new();
     let left = Configuration {
-        incoming,
+        incoming: conf.incoming,
         outgoing: none,
         learners,
         learners_next: none,
@@ -330,36 +275,16 @@ fn removals(outgoing: IdSet, incoming: IdSet, learners: IdSet) -> ChangeLog
     ensures { result ≡ change_log_of (rules.removals (gone_walk (held outgoing) (held incoming) (held learners))) }
 {
     let mut log = ChangeLog::new();
-    let n = outgoing.len;
-    let mut i = 0;
-    let mut j = 0;
-    let mut k = 0;
-    while i < IdSet::CAPACITY {
-        if n <= i {
-            return log;
+    let mut voter = 0;
+    let mut learner = 0;
+    for id in outgoing.ids.iter().take(outgoing.len) {
+        voter = idset::seek(&incoming.ids, incoming.len, voter, *id);
+        learner = idset::seek(&learners.ids, learners.len, learner, *id);
+        let is_voter = idset::stands_at(&incoming.ids, incoming.len, voter, *id);
+        let is_learner = idset::stands_at(&learners.ids, learners.len, learner, *id);
+        if !is_voter && !is_learner {
+            log = changes::push(log, *id, MapChangeType::Remove);
         }
-        let id = outgoing.ids[i];
-        j = idset::seek(&incoming.ids, incoming.len, j, id);
-        k = idset::seek(&learners.ids, learners.len, k, id);
-        log = removal(
-            log,
-            id,
-            idset::stands_at(&incoming.ids, incoming.len, j, id),
-            idset::stands_at(&learners.ids, learners.len, k, id),
-        );
-        i += 1;
     }
     log
-}
-
-fn removal(log: ChangeLog, id: u64, voter: bool, learner: bool) -> ChangeLog
-    ensures { result ≡ cond (voter || learner) log (push_in id MapChangeType.Remove log) }
-{
-    if voter {
-        return log;
-    }
-    if learner {
-        return log;
-    }
-    changes::push(log, id, MapChangeType::Remove)
 }

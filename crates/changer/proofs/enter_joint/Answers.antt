@@ -3,11 +3,11 @@ use borrow.Author.Rules.{rules}
 use Rattle.changer.proofs.Called.{enter-stops, enter_list, enter_again}
 use Rattle.changer.proofs.enter_joint.Goals as goal
 
-pub returns-then-v-ne-ACCEPTED : goal.returns-then-v-ne-ACCEPTED
-returns-then-v-ne-ACCEPTED c = search (rules, enter-stops)
+pub returns-then-verdict-ne-ACCEPTED : goal.returns-then-verdict-ne-ACCEPTED
+returns-then-verdict-ne-ACCEPTED c = search (rules, enter-stops)
 
-pub returns-then-a-ne-ACCEPTED : goal.returns-then-a-ne-ACCEPTED
-returns-then-a-ne-ACCEPTED c = search (rules, enter_list)
+pub returns-then-answer-ne-ACCEPTED : goal.returns-then-answer-ne-ACCEPTED
+returns-then-answer-ne-ACCEPTED c = search (rules, enter_list)
 
 pub returns : goal.returns
 returns c = search (rules, enter_again)

@@ -1,13 +1,7 @@
 -- `changer::may_simple` meets its contract: the first test that refuses, or none. Assumes nothing.
 use borrow.Author.Rules.{rules}
-use Rattle.changer.proofs.Tests.{ill_formed, unreadable, single-refuses, single_goes}
+use Rattle.changer.proofs.Tests.{single-refuses, single_goes}
 use Rattle.changer.proofs.may_simple.Goals as goal
-
-pub returns-then-is_malformed : goal.returns-then-is_malformed
-returns-then-is_malformed c = search (rules, ill_formed)
-
-pub returns-then-v-ne-ACCEPTED : goal.returns-then-v-ne-ACCEPTED
-returns-then-v-ne-ACCEPTED c = search (rules, unreadable)
 
 pub returns-then-joint : goal.returns-then-joint
 returns-then-joint c = search (rules, single-refuses)

@@ -1,18 +1,20 @@
--- `changer::removals` meets its contract. The loop's invariant: what is left of the walk, logged after `log`, is the whole log. The measure is how
--- many places of `outgoing` are left. Assumes nothing.
+-- `changer::removals` meets its contract: what is left of the walk, logged after `log`, is the whole log. Assumes nothing.
 use borrow.Author.Rules.{rules}
 use Rattle.idset.proofs.Sizes.{set_sized}
-use Rattle.changer.proofs.Removed.{leave-start, leave-end, leave_out, leave-next}
+use Rattle.changer.proofs.Taken.{taken-next, taken-none}
+use Rattle.changer.proofs.Removed.{leave-start, leave-end, leave-kept, leave-logged}
 use Rattle.changer.proofs.removals.Goals as goal
 
-pub loop-i-init : goal.loop-i-init
-loop-i-init c = search (rules, leave-start, set_sized)
+pub loop-id-init : goal.loop-id-init
+loop-id-init c = leave-start _ _ _ (set_sized c.args.outgoing c.well_formed.0) (cc) c.new-log.ensures
 
-pub returns-then-n-i : goal.returns-then-n-i
-returns-then-n-i c = search (rules, leave-end)
+pub loop-id-preserved : goal.loop-id-preserved
+loop-id-preserved c = leave-kept c.loop-id.invariant (taken-next _ c.in-Some.ensures.steps) c.seek-voter.ensures c.seek-learner.ensures c.stands_at-is_voter.ensures c.stands_at-is_learner.ensures
+    c.else-not-is_voter.either
 
-pub loop-i-preserved : goal.loop-i-preserved
-loop-i-preserved c = leave-next c.loop-i.invariant c.if-n-i.false c.loop-i-test.true _ c.seek-j.ensures _ c.seek-k.ensures _ c.stands_at.ensures _ c.stands_at-in-loop-i.ensures c.removal-log.ensures
+pub loop-id-preserved-then-not-is_learner : goal.loop-id-preserved-then-not-is_learner
+loop-id-preserved-then-not-is_learner c = leave-logged c.loop-id.invariant (taken-next _ c.in-Some.ensures.steps) c.seek-voter.ensures c.seek-learner.ensures c.stands_at-is_voter.ensures
+    c.stands_at-is_learner.ensures (search rules) (search rules) c.push-log.ensures
 
 pub returns : goal.returns
-returns c = search (rules, leave_out)
+returns c = leave-end c.loop-id.invariant (taken-none _ _ c.in-None.ensures.steps)

@@ -1,11 +1,7 @@
--- `changer::removals` meets its contract. The loop's invariant: what is left of the walk, logged after `log`, is the whole log. The measure is how
--- many places of `outgoing` are left. Assumes nothing.
-use Prim.Native.Nat.{◌-◌}
+-- `changer::removals` meets its contract: what is left of the walk, logged after `log`, is the whole log. Assumes nothing.
+use Rattle.std.proofs.Common.{take}
 use Rattle.changer.proofs.Removed.{Leaving}
 use Rattle.changer.proofs.removals.Given as goal
 
-abbrev pub invariant-loop-i : goal.invariant-loop-i
-invariant-loop-i l = Leaving l.outgoing l.incoming l.learners l.log l.i l.j l.k
-
-abbrev pub decreases-loop-i : goal.decreases-loop-i
-decreases-loop-i l = 64 - l.i
+abbrev pub invariant-loop-id : goal.invariant-loop-id
+invariant-loop-id l = Leaving l.fn.outgoing l.incoming l.learners (take l.id-iterator.n l.id-iterator.iter.rest.now) l.log l.voter l.learner

@@ -1,11 +1,8 @@
--- `changer::tracked_after` meets its contract. The loop's invariant: what is left of the log, over `ids`, comes to the same. The measure is how many
--- places of the log are left. Assumes nothing.
-use Prim.Native.Nat.{◌-◌}
-use Rattle.changer.proofs.Tracked.{Tracking}
+-- `changer::tracked_after` meets its contract: what is left of the log, over `ids`, comes to the same. Assumes nothing.
+use Rattle.std.proofs.Common.{◌≡◌, take}
+use Rattle.tracker.specs.Bridge.{entries_of, log_of}
+use Rattle.changer.specs.Stages.{pending_in}
 use Rattle.changer.proofs.tracked_after.Given as goal
 
-abbrev pub invariant-loop-i : goal.invariant-loop-i
-invariant-loop-i l = Tracking l.log.count l.log.entries l.initial.ids l.ids l.i
-
-abbrev pub decreases-loop-i : goal.decreases-loop-i
-decreases-loop-i l = 256 - l.i
+abbrev pub invariant-loop-entry : goal.invariant-loop-entry
+invariant-loop-entry l = pending_in (entries_of (take l.entry-iterator.n l.entry-iterator.iter.rest.now)) l.ids ≡ pending_in (log_of l.fn.log) l.fn.tracked
