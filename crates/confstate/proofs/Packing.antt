@@ -8,16 +8,20 @@ use borrow.Author.Tests.{le-leb, lt-leb, ltb-true, ltb-false}
 use lib.Dec.{leb, ltb}
 use lib.ListN.{length, take, drop, get_or, set, length-set, length-drop, length-append, drop_of_length-le}
 use lib.Seq.{append_snoc, take_all, take-append-le, drop-drop}
+use Rattle.std.specs.Prelude.{Result, Ok, Err}
 use Rattle.rules.specs.Wire.{Front, cut, num, front, fits, Found, bad, found, judged, varint_in}
 use Rattle.rules.specs.Message.{Numbers, faulty, all, lower, before, packed, grown}
 use Rattle.rules.proofs.Wire.{fits-yes, front-within}
 use Rattle.rules.proofs.Packed.{packed_none, packed-cut, packed-num}
-use Rattle.wire.specs.Varints.{varint_at}
+use Rattle.wire.specs.Varints.{read_at}
 use Rattle.wire.specs.declared.Varint.{Varint}
+use Rattle.wire.specs.declared.Fault.{Fault}
+use Rattle.wire.specs.declared.Fault.TheVariants as faults
 use Rattle.wire.proofs.Fronts.{front-last}
-use Rattle.wire.proofs.Found.{read-bad, read_found, read-fault, found_within}
+use Rattle.wire.proofs.Found.{read-bad, read_found, read_over, found_within}
 use Rattle.confstate.specs.Words.{list_words, list_in}
 use Rattle.confstate.specs.Steps.{Listing, Grows}
+use Rattle.confstate.specs.declared.read.Refusal.TheVariants.{CutShort, Malformed, LongList}
 use Rattle.confstate.proofs.Words.{counted, count_set, told, id-set, listed-count}
 
 -- ** Packed numbers, by what is read first
@@ -59,9 +63,9 @@ packed-found l {v} {n} e = by (front l) refl e
 packed_over : (l : List ℕ) {v n : ℕ} → front l ≡ num v n → fits v n ≡ false → packed l ≡ lower 29 (packed (drop n l))
 packed_over l {v} {n} g t = packed-num l g ∙ ap (λ (b : Bool). before (cond b (found v n) (bad 29)) (packed (drop n l))) t
 
-one_found : (l : List ℕ) (p : ℕ) → p < length l → get_or l p 0 < 128 → varint_in (drop p l) ≡ found (get_or l p 0) 1
+one_found : (l : List ℕ) (p : ℕ) → p < length l → {b : ℕ} → b ≡ get_or l p 0 → b < 128 → varint_in (drop p l) ≡ found b 1
 unfolding varint_in
-one_found l p h b = ap judged (front-last l p h b) ∙ rw (fits-yes (get_or l p 0) 1 (omega arith) (omega arith))
+one_found l p h {b} e k = ap judged (front-last l p h (omega arith)) ∙ rw (← e, fits-yes b 1 (omega arith) (omega arith))
 
 -- ** The loop
 
@@ -151,29 +155,29 @@ module _ {l old : List ℕ} {c : ℕ} {ws : List ℕ} {n p : ℕ} {over : Bool} 
       }
 
   -- one of one byte
-  pub packing_one : p < length l → get_or l p 0 < 128 → {m : List ℕ} → m ≡ cond (ltb n 64) (set ws n (get_or l p 0)) ws → Packing l old c m (n + 1) over (p + 1)
-  packing_one h b g = packing_found (one_found l p h b) g
+  pub packing_one : p < length l → {b : ℕ} → b ≡ get_or l p 0 → b < 128 → {m : List ℕ} → m ≡ cond (ltb n 64) (set ws n b) ws → Packing l old c m (n + 1) over (p + 1)
+  packing_one h e k g = packing_found (one_found l p h e k) g
 
-  module _ (h : p < length l) {v : Varint} (e : v ≡ varint_at l p) where
+  module _ (h : p < length l) {x : Result Varint Fault} (e : x ≡ read_at l p) where
     left : 0 < length (drop p l)
     left = simp length-drop (omega arith)
 
-    pub packing_cut : v.fault ≡ 28 → Grows (grown old (packed l)) 28 ws
+    pub packing_cut : x ≡ Err faults.CutShort → Grows (grown old (packed l)) (Err CutShort) ws
     unfolding Grows
     packing_cut f =
-        let a : varint_in (drop p l) ≡ bad 28 = read-bad l p e (λ z. omega arith) ∙ ap (λ (x : ℕ). bad x) f in
+        let a : varint_in (drop p l) ≡ bad 28 = read-bad l p (sym f ∙ e) in
         let b : grown old (packed l) ≡ faulty 28 = sym (here (packed_28 (drop p l) left a)) ∙ result_cut over k.seen in
-        subst (λ (r : Numbers). Grows r 28 ws) (sym b) refl
+        subst (λ (r : Numbers). Grows r (Err CutShort) ws) (sym b) refl
 
-    module _ (f : v.fault ≡ 0) where
+    module _ {v : Varint} (f : x ≡ Ok v) where
       abbrev size : ℕ
-      size = (read_found l p e f).0
+      size = (read_found l p (sym f ∙ e)).0
 
       ends : v.next ≡ p + size
-      ends = (read_found l p e f).1.0
+      ends = (read_found l p (sym f ∙ e)).1.0
 
       reads : varint_in (drop p l) ≡ found v.value size
-      reads = (read_found l p e f).1.1
+      reads = (read_found l p (sym f ∙ e)).1.1
 
       pub value-within : (p < v.next) × (v.next ≤ length l)
       value-within = (omega (arith, (found_within (drop p l) reads).0, ends), omega (arith, (found_within (drop p l) reads).1, ends, length-drop p l))
@@ -181,22 +185,22 @@ module _ {l old : List ℕ} {c : ℕ} {ws : List ℕ} {n p : ℕ} {over : Bool} 
       pub packing_next : {m : List ℕ} → m ≡ cond (ltb n 64) (set ws n v.value) ws → Packing l old c m (n + 1) over v.next
       packing_next {m} g = subst (λ (j : ℕ). Packing l old c m (n + 1) over j) (sym ends) (packing_found reads g)
 
-    module _ (f : v.fault ≡ 0 → ⊥) (g : v.fault ≡ 28 → ⊥) where
+    module _ {next : ℕ} (f : x ≡ Err (faults.Malformed next)) where
       abbrev wide : ℕ
-      wide = (read-fault l p e f g).1
+      wide = (read_over l p (sym f ∙ e)).1
 
-      over_ends : v.next ≡ p + wide
-      over_ends = (read-fault l p e f g).2.1.0
+      over_ends : next ≡ p + wide
+      over_ends = (read_over l p (sym f ∙ e)).2.0
 
-      over_front : front (drop p l) ≡ num (read-fault l p e f g).0 wide
-      over_front = (read-fault l p e f g).2.1.1.0
+      over_front : front (drop p l) ≡ num (read_over l p (sym f ∙ e)).0 wide
+      over_front = (read_over l p (sym f ∙ e)).2.1.0
 
-      pub over_within : (p < v.next) × (v.next ≤ length l)
+      pub over_within : (p < next) × (next ≤ length l)
       over_within = (omega (arith, (front-within (drop p l) over_front).0, over_ends), omega (arith, (front-within (drop p l) over_front).1, over_ends, length-drop p l))
 
-      pub packing_over : Packing l old c ws n true v.next
+      pub packing_over : Packing l old c ws n true next
       packing_over =
-          let d : drop wide (drop p l) ≡ drop v.next l = drop-drop wide p l ∙ ap (λ (j : ℕ). drop j l) (sym over_ends) in
+          let d : drop wide (drop p l) ≡ drop next l = drop-drop wide p l ∙ ap (λ (j : ℕ). drop j l) (sym over_ends) in
           record {
             long = k.long;
             seen = k.seen;
@@ -205,33 +209,33 @@ module _ {l old : List ℕ} {c : ℕ} {ws : List ℕ} {n p : ℕ} {over : Bool} 
             bound = omega (arith, k.bound, over_within.0);
             holds = k.holds;
             same = ap (λ (x : List ℕ). lower 29 (packed x)) (sym d)
-                ∙ (sym (result_over over k.seen (packed (drop wide (drop p l)))) ∙ here (packed_over (drop p l) over_front (read-fault l p e f g).2.1.1.1));
+                ∙ (sym (result_over over k.seen (packed (drop wide (drop p l)))) ∙ here (packed_over (drop p l) over_front (read_over l p (sym f ∙ e)).2.1.1));
           }
 
   module _ (h : length l ≤ p) where
     ended : result over k.seen (all []) ≡ grown old (packed l)
     ended = here (ap packed (drop_of_length-le l h) ∙ packed_none)
 
-    pub packing_29 : over ≡ true → Grows (grown old (packed l)) 29 ws
+    pub packing_29 : over ≡ true → Grows (grown old (packed l)) (Err Malformed) ws
     unfolding Grows
     packing_29 e =
         let b : grown old (packed l) ≡ faulty 29 = sym ended ∙ ap (λ (b : Bool). result b k.seen (all [])) e in
-        subst (λ (r : Numbers). Grows r 29 ws) (sym b) refl
+        subst (λ (r : Numbers). Grows r (Err Malformed) ws) (sym b) refl
 
     whole : over ≡ false → grown old (packed l) ≡ cond (leb (length k.seen) 64) (all k.seen) (faulty 30)
     whole e = sym ended ∙ (ap (λ (b : Bool). result b k.seen (all [])) e ∙ rw append-nil)
 
-    pub packing_30 : over ≡ false → 64 < n → Grows (grown old (packed l)) 30 ws
+    pub packing_30 : over ≡ false → 64 < n → Grows (grown old (packed l)) (Err LongList) ws
     unfolding Grows
     packing_30 e g =
         let b : grown old (packed l) ≡ faulty 30 = whole e ∙ rw (lt-leb (length k.seen) 64 (omega (arith, k.count))) in
-        subst (λ (r : Numbers). Grows r 30 ws) (sym b) refl
+        subst (λ (r : Numbers). Grows r (Err LongList) ws) (sym b) refl
 
-    pub packing_all : over ≡ false → n ≤ 64 → Grows (grown old (packed l)) 0 (set ws 64 n)
+    pub packing_all : over ≡ false → n ≤ 64 → Grows (grown old (packed l)) (Ok tt) (set ws 64 n)
     unfolding Grows
     packing_all e g =
         let few : length k.seen ≤ 64 = omega (arith, k.count) in
         let b : grown old (packed l) ≡ all k.seen = whole e ∙ rw (le-leb (length k.seen) 64 few) in
         let w : set ws 64 n ≡ list_words k.seen
         = ap (λ (x : List ℕ). set x 64 n) (k.holds ∙ ap (λ (x : List ℕ). counted x c) (take_all 64 k.seen few)) ∙ (count_set k.seen c n few ∙ told k.seen k.count) in
-        subst (λ (r : Numbers). Grows r 0 (set ws 64 n)) (sym b) (refl, w)
+        subst (λ (r : Numbers). Grows r (Ok tt) (set ws 64 n)) (sym b) (refl, w)

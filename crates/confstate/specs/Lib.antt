@@ -1,5 +1,6 @@
 pub mod Words
 pub mod Entries
+pub mod Refusals
 pub mod Steps
 pub mod Sizes
 pub mod Examples
