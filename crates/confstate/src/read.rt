@@ -2,7 +2,7 @@
 ghost use Rattle.std.specs.Prelude.{◌≡◌, not, cond, [], ◌∷◌, ◌-◌, ◌≤◌, ◌<◌, eqb, ltb, length, drop, set};
 ghost use Rattle.rules.specs.Apply.{no_conf_state};
 ghost use Rattle.rules.specs.Wire.{numbered, single as single_of, length_in, varint_in};
-ghost use Rattle.rules.specs.Message.{all, grown, packed as packed_in, read as read_of};
+ghost use Rattle.rules.specs.Message.{all, faulty, grown, lower, packed as packed_in, read as read_of};
 ghost use Rattle.confstate.specs.Words.{conf_state_words, flag_word, list_in, message_in};
 ghost use Rattle.confstate.specs.Entries.{read_answer, read_leaves};
 ghost use Rattle.confstate.specs.Refusals.{number_of, refusal_for};
@@ -192,13 +192,12 @@ fn single(value: u64, list: &mut [u64]) -> Result<(), Refusal>
     Ok(())
 }
 
-// Packed numbers after those of a list, those of one byte first. A cut one ends it; that one was over, or that there are more than 64, is told at the end.
+// Packed numbers after those of a list, those of one byte first. A cut one ends it; that there are more than 64 is told at the end.
 fn packed(bytes: &[u8], list: &mut [u64]) -> Result<(), Refusal>
     requires { Listing list.old }
     ensures { Grows (grown (list_in list.old 0) (packed_in bytes.now)) result list.new }
 {
     let mut n = list[IDS] as usize;
-    let mut over = false;
     let mut p = 0;
 
     // A while: a step is as long as the number that was read.
@@ -217,14 +216,8 @@ fn packed(bytes: &[u8], list: &mut [u64]) -> Result<(), Refusal>
                 p = v.next;
             }
             Err(Fault::CutShort) => return Err(Refusal::CutShort),
-            Err(Fault::Malformed { next }) => {
-                over = true;
-                p = next;
-            }
+            Err(Fault::Malformed { next }) => return Err(refusal_past(bytes, next)),
         }
-    }
-    if over {
-        return Err(Refusal::Malformed);
     }
     let too_many = IDS < n;
     if too_many {
@@ -232,6 +225,24 @@ fn packed(bytes: &[u8], list: &mut [u64]) -> Result<(), Refusal>
     }
     list[IDS] = n as u64;
     Ok(())
+}
+
+// What is told of packed numbers of which one was malformed, and the rest begins at `at`: that, or that one is cut short.
+fn refusal_past(bytes: &[u8], at: usize) -> Refusal
+    requires { at ≤ length bytes.now }
+    ensures { lower 29 (packed_in (drop at bytes.now)) ≡ faulty (number_of result) }
+{
+    let mut p = at;
+
+    // A while: a step is as long as the number that was read.
+    while p < bytes.len() {
+        match wire::read_varint(bytes, p) {
+            Ok(v) => p = v.next,
+            Err(Fault::Malformed { next }) => p = next,
+            Err(Fault::CutShort) => return Refusal::CutShort,
+        }
+    }
+    Refusal::Malformed
 }
 
 // The id at place `n` of a list, where it has that place.
