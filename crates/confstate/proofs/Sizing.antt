@@ -120,6 +120,9 @@ block_lent ws k {n} e =
     let a : k + n - k ≡ at ws (k + 64) = omega arith in
     ap (λ (m : ℕ). take m (drop k ws)) a
 
+pub lent_few : {ws xs : List ℕ} {k : ℕ} → Block ws k → xs ≡ list_in ws k → length xs ≤ 64
+lent_few b e = rw e b.few
+
 module _ {ws : List ℕ} (w : Writable ws) where
   pub block_1 : Block ws 0
   unfolding message_in

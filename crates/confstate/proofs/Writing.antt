@@ -11,14 +11,18 @@ use lib.ListN.{length, drop, get_or, set, length-append, length-set}
 use lib.Seq.{sets, length-sets}
 use Rattle.text.specs.Put.{Put, last}
 use Rattle.text.proofs.Laws.{sets_append, put_none, put_then, put-length, put_whole}
+use Rattle.std.specs.Prelude.{Result, Err}
 use Rattle.rules.specs.State.{ConfState}
 use Rattle.rules.specs.Wire.{groups, varint_of}
 use Rattle.rules.specs.Message.{packed_of, list_field, flag_field, encoded, overlong, number_written, buffer_written}
 use Rattle.confstate.specs.Words.{at, list_in, message_in, is_conf_state}
 use Rattle.confstate.specs.Entries.{write_number, write_answer, write_leaves}
 use Rattle.confstate.specs.Sizes.{refusal_of, Writable, Listable, sizes_of}
+use Rattle.confstate.specs.Unwritten.{unwritten_number, said, answered}
 use Rattle.confstate.specs.declared.write.Sizes.{Sizes}
-use Rattle.confstate.proofs.Sizing.{packed-at, packed-past, list_none, list_some, block_1, block_2, block_3, block_4, is-conf-state}
+use Rattle.confstate.specs.declared.write.Unwritten.{Unwritten}
+use Rattle.confstate.specs.declared.write.Unwritten.TheVariants.{NoConfState, LongList, SmallOutput}
+use Rattle.confstate.proofs.Sizing.{packed-at, packed-past, list_none, list_some, is-conf-state}
 
 -- a text that fits ends in the slice
 put-end : {l x m : List ℕ} {p q : ℕ} → length l ≤ last → p + length x ≤ length l → Put l p x m q → q ≡ p + length x
@@ -90,30 +94,30 @@ flag-put {l} {n} {at} h k r = rw (flag-some n h k) (record { bytes = rw add-one;
 abbrev pieces : ℕ → List ℕ → List ℕ
 pieces f xs = (8 * f + 2) ∷ (varint_of (length (packed_of xs)) ++ packed_of xs)
 
-module _ {f p packed : ℕ} {ws : List ℕ} {k room : ℕ} (s : Listable f p packed ws k room) where
-  pub listing_none : {l : List ℕ} → packed ≡ 0 → room ≤ last → Put l p (list_field f (list_in ws k)) l p
-  listing_none e h = rw (list_none f (list_in ws k) (sym s.size ∙ e)) (put_none (omega (arith, s.fits)))
+module _ {f p packed : ℕ} {xs : List ℕ} {room : ℕ} (s : Listable f p packed xs room) where
+  pub listing_none : {l : List ℕ} → packed ≡ 0 → room ≤ last → Put l p (list_field f xs) l p
+  listing_none e h = rw (list_none f xs (sym s.size ∙ e)) (put_none (omega (arith, s.fits)))
 
   module _ (e : packed ≡ 0 → ⊥) where
-    some : list_field f (list_in ws k) ≡ pieces f (list_in ws k)
-    some = list_some f (list_in ws k) (λ z. e (s.size ∙ z)) s.tag
+    some : list_field f xs ≡ pieces f xs
+    some = list_some f xs (λ z. e (s.size ∙ z)) s.tag
 
-    pub listing-room : p + (1 + (length (varint_of packed) + length (packed_of (list_in ws k)))) ≤ room
+    pub listing-room : p + (1 + (length (varint_of packed) + length (packed_of xs))) ≤ room
     listing-room =
-        omega (arith, s.fits, ap length some, length-append (varint_of (length (packed_of (list_in ws k)))) (packed_of (list_in ws k)), ap (λ (n : ℕ). length (varint_of n)) s.size)
+        omega (arith, s.fits, ap length some, length-append (varint_of (length (packed_of xs))) (packed_of xs), ap (λ (n : ℕ). length (varint_of n)) s.size)
 
     module _ (l : List ℕ) (h : length l ≤ last) (r : room ≡ length l) where
       pub listing-first : p + 1 + length (varint_of packed) ≤ length (set l p (8 * f + 2))
       listing-first = omega (arith, listing-room, length-set l p (8 * f + 2))
 
-      module _ {m : List ℕ} {q : ℕ} (g : Put (set l p (8 * f + 2)) (p + 1) (varint_of packed) m q) {ys : List ℕ} (y : ys ≡ list_in ws k) where
-        pub listing-next : q + length (packed_of ys) ≤ length m
-        listing-next = omega (arith, listing-room, g.end, put-length g, length-set l p (8 * f + 2), ap (λ (l : List ℕ). length (packed_of l)) y)
+      module _ {m : List ℕ} {q : ℕ} (g : Put (set l p (8 * f + 2)) (p + 1) (varint_of packed) m q) where
+        pub listing-next : q + length (packed_of xs) ≤ length m
+        listing-next = omega (arith, listing-room, g.end, put-length g, length-set l p (8 * f + 2))
 
-        pub listing-put : {n : List ℕ} {t : ℕ} → Put m q (packed_of ys) n t → Put l p (list_field f (list_in ws k)) n t
+        pub listing-put : {n : List ℕ} {t : ℕ} → Put m q (packed_of xs) n t → Put l p (list_field f xs) n t
         listing-put i =
             let b : Put l p ((8 * f + 2) ∷ []) (set l p (8 * f + 2)) (p + 1) = record { bytes = refl; end = omega (arith, listing-room) } in
-            rw some (put_then h b (put_then (omega (arith, length-set l p (8 * f + 2))) (rw s.size at g) (rw y at i)))
+            rw some (put_then h b (put_then (omega (arith, length-set l p (8 * f + 2))) (rw s.size at g) i))
 
 -- ** The message
 
@@ -136,57 +140,65 @@ module _ {ws : List ℕ} {z : Sizes} (l : List ℕ) (h : length l ≤ last) (r :
   unfolding encoded message_in
   room_1 = omega (arith, r.2)
 
-  pub ready_1 : Listable 1 0 z.voters ws 0 (length l)
+  pub ready_1 : {xs : List ℕ} → xs ≡ list_in ws 0 → Listable 1 0 z.voters xs (length l)
   unfolding sizes_of message_in
-  ready_1 = record {
-    block = block_1 r.0;
+  ready_1 x = rw x (record {
     tag = omega arith;
     size = ap (λ (y : Sizes). y.voters) r.1;
     fits = omega (arith, room_1, length-append (list_field 1 (list_in ws 0)) (from_2 (message_in ws)));
-  }
+  })
 
-  module _ {m : List ℕ} {a : ℕ} (f : Put l 0 (list_field 1 (list_in ws 0)) m a) where
+  module _ {xs1 : List ℕ} (x1 : xs1 ≡ list_in ws 0) {m : List ℕ} {a : ℕ} (y1 : Put l 0 (list_field 1 xs1) m a) where
+    f : Put l 0 (list_field 1 (list_in ws 0)) m a
+    f = rw x1 at y1
+
     room_2 : a + length (from_2 (message_in ws)) ≤ length m
     room_2 = put-room h (from_2 (message_in ws)) room_1 f
 
-    pub ready_2 : Listable 2 a z.learners ws 65 (length m)
+    pub ready_2 : {xs : List ℕ} → xs ≡ list_in ws 65 → Listable 2 a z.learners xs (length m)
     unfolding sizes_of message_in
-    ready_2 = record {
-      block = block_2 r.0;
+    ready_2 x = rw x (record {
       tag = omega arith;
       size = ap (λ (y : Sizes). y.learners) r.1;
       fits = omega (arith, room_2, length-append (list_field 2 (list_in ws 65)) (from_3 (message_in ws)));
-    }
+    })
 
-    module _ {n : List ℕ} {b : ℕ} (g : Put m a (list_field 2 (list_in ws 65)) n b) where
+    module _ {xs2 : List ℕ} (x2 : xs2 ≡ list_in ws 65) {n : List ℕ} {b : ℕ} (y2 : Put m a (list_field 2 xs2) n b) where
+      g : Put m a (list_field 2 (list_in ws 65)) n b
+      g = rw x2 at y2
+
       room_3 : b + length (from_3 (message_in ws)) ≤ length n
       unfolding message_in
       room_3 = put-room (omega (arith, put-length f)) (from_3 (message_in ws)) room_2 g
 
-      pub ready_3 : Listable 3 b z.outgoing ws 130 (length n)
+      pub ready_3 : {xs : List ℕ} → xs ≡ list_in ws 130 → Listable 3 b z.outgoing xs (length n)
       unfolding sizes_of message_in
-      ready_3 = record {
-        block = block_3 r.0;
+      ready_3 x = rw x (record {
         tag = omega arith;
         size = ap (λ (y : Sizes). y.outgoing) r.1;
         fits = omega (arith, room_3, length-append (list_field 3 (list_in ws 130)) (from_4 (message_in ws)));
-      }
+      })
 
-      module _ {o : List ℕ} {d : ℕ} (i : Put n b (list_field 3 (list_in ws 130)) o d) where
+      module _ {xs3 : List ℕ} (x3 : xs3 ≡ list_in ws 130) {o : List ℕ} {d : ℕ} (y3 : Put n b (list_field 3 xs3) o d) where
+        i : Put n b (list_field 3 (list_in ws 130)) o d
+        i = rw x3 at y3
+
         room_4 : d + length (from_4 (message_in ws)) ≤ length o
         unfolding message_in
         room_4 = put-room (omega (arith, put-length f, put-length g)) (from_4 (message_in ws)) room_3 i
 
-        pub ready_4 : Listable 4 d z.next ws 195 (length o)
+        pub ready_4 : {xs : List ℕ} → xs ≡ list_in ws 195 → Listable 4 d z.next xs (length o)
         unfolding sizes_of message_in
-        ready_4 = record {
-          block = block_4 r.0;
+        ready_4 x = rw x (record {
           tag = omega arith;
           size = ap (λ (y : Sizes). y.next) r.1;
           fits = omega (arith, room_4, length-append (list_field 4 (list_in ws 195)) (flag_field (eqb (at ws 260) 1)));
-        }
+        })
 
-        module _ {p : List ℕ} {e : ℕ} (j : Put o d (list_field 4 (list_in ws 195)) p e) where
+        module _ {xs4 : List ℕ} (x4 : xs4 ≡ list_in ws 195) {p : List ℕ} {e : ℕ} (y4 : Put o d (list_field 4 xs4) p e) where
+          j : Put o d (list_field 4 (list_in ws 195)) p e
+          j = rw x4 at y4
+
           pub ready_5 : (at ws 260 ≤ 1) × (e + length (flag_field (eqb (at ws 260) 1)) ≤ length p)
           unfolding message_in
           ready_5 = (r.0.flag, put-room (omega (arith, put-length f, put-length g, put-length i)) (flag_field (eqb (at ws 260) 1)) room_4 j)
@@ -205,7 +217,7 @@ module _ {ws : List ℕ} {z : Sizes} (l : List ℕ) (h : length l ≤ last) (r :
 abbrev small : List ℕ → List ℕ → ℕ
 small ws old = cond (ltb (length old) (length (encoded (message_in ws)))) 31 0
 
-pub answer-refused : (ws old : List ℕ) {n : ℕ} → n ≡ refusal_of ws → (n ≡ 0 → ⊥)
+answer-refused : (ws old : List ℕ) {n : ℕ} → n ≡ refusal_of ws → (n ≡ 0 → ⊥)
     → (4294967296 + n ≡ write_answer ws (length old)) × (old ≡ write_leaves ws old)
 unfolding refusal_of write_number write_answer write_leaves number_written buffer_written
 answer-refused ws old {n} e h = by (is_conf_state ws) (overlong (message_in ws)) e
@@ -216,6 +228,23 @@ answer-refused ws old {n} e h = by (is_conf_state ws) (overlong (message_in ws))
     by true true e = (omega arith, refl)
     by true false e = absurd (h e)
     by false o e = (omega arith, refl)
+
+pub number-few : (d : Unwritten) → unwritten_number d ≤ 31
+number-few NoConfState = omega arith
+number-few LongList = omega arith
+number-few SmallOutput = omega arith
+
+number-some : (d : Unwritten) → unwritten_number d ≡ 0 → ⊥
+number-some NoConfState e = omega arith
+number-some LongList e = omega arith
+number-some SmallOutput e = omega arith
+
+pub answer-unwritten : (ws old : List ℕ) {x : Result (Unit {0}) Unwritten} {r : Result ℕ Unwritten} {d : Unwritten} → said x ≡ refusal_of ws → x ≡ Err d → r ≡ Err d
+    → (answered r ≡ write_answer ws (length old)) × (old ≡ write_leaves ws old)
+answer-unwritten ws old {x} {r} {d} e y z =
+    let n : unwritten_number d ≡ refusal_of ws = sym (ap said y) ∙ e in
+    let a = answer-refused ws old n (number-some d) in
+    (ap answered z ∙ a.0, a.1)
 
 module _ {ws : List ℕ} (w : Writable ws) where
   words-yes : is_conf_state ws ≡ true
