@@ -2,6 +2,7 @@ pub mod Sizes
 pub mod Part
 pub mod Steps
 pub mod Shift
+pub mod Turned
 pub mod Padded
 pub mod Walk
 pub mod Turns
