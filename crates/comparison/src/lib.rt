@@ -12,6 +12,8 @@ mod sets; // lists put in order
 mod walk; // the ids of both messages, one after the other
 mod line; // the text of a line
 
+use walk::Places;
+
 // The most bytes that a file has.
 pub const MAX_FILE: usize = 32768;
 
@@ -134,16 +136,14 @@ fn put_ids(out: &mut [u8], at: usize, a: &[u64], b: &[u64]) -> usize
     ensures { Put out.old at (id_lines (message_in a.now) (message_in b.now)) out.new result }
 {
     let mut end = at;
-    let mut i = walk::begin();
-    let mut j = walk::begin();
-    let mut next = walk::next_id(a, i, b, j);
-    while next.some {
-        let s = walk::sets_at(a, i, next.id);
-        let t = walk::sets_at(b, j, next.id);
-        end = line::put_id(out, end, next.id, s, t);
+    let mut i = Places::default();
+    let mut j = Places::default();
+    while let Some(id) = walk::next_id(a, i, b, j) {
+        let s = walk::sets_at(a, i, id);
+        let t = walk::sets_at(b, j, id);
+        end = line::put_id(out, end, id, s, t);
         i = walk::past(i, s);
         j = walk::past(j, t);
-        next = walk::next_id(a, i, b, j);
     }
     end
 }

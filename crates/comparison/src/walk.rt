@@ -2,13 +2,13 @@
 ghost use Rattle.std.specs.Prelude.{◌≡◌, ◌+◌, ◌≤◌, length, drop};
 ghost use Rattle.idset.specs.Places.{first_is};
 ghost use Rattle.confstate.specs.Words.{list_in};
-ghost use Rattle.comparison.specs.Steps.{Lists, Within, begin as begin_of, lesser_of, least_of, next_of, left_of, firsts_of, past_of, one_of};
+ghost use Rattle.comparison.specs.Steps.{Lists, Within, lesser_of, least_of, next_of, left_of, firsts_of, past_of};
 
 use crate::line::Standing;
 use confstate::{LEARNERS, NEXT, OUTGOING, VOTERS};
 
-// Where the walk is in each list of a message.
-#[derive(Clone, Copy)]
+// Where the walk is in each list of a message; first at the first place of each.
+#[derive(Clone, Copy, Default)]
 pub struct Places {
     pub voters: usize,
     pub outgoing: usize,
@@ -16,37 +16,17 @@ pub struct Places {
     pub next: usize,
 }
 
-// An id, if there is one.
-#[derive(Clone, Copy)]
-pub struct Found {
-    pub some: bool,
-    pub id: u64,
-}
-
-// The first place of each list.
-pub fn begin() -> Places
-    ensures { result ≡ begin_of }
-{
-    Places {
-        voters: 0,
-        outgoing: 0,
-        learners: 0,
-        next: 0,
-    }
-}
-
-// The least id that is left of both messages.
-pub fn next_id(a: &[u64], i: Places, b: &[u64], j: Places) -> Found
+// The least id that is left of both messages, if there is one.
+pub fn next_id(a: &[u64], i: Places, b: &[u64], j: Places) -> Option<u64>
     requires { Lists a.now × Lists b.now }
     ensures { result ≡ next_of (left_of a.now i) (left_of b.now j) }
 {
-    let none = Found { some: false, id: 0 };
-    let first = least(a, i, none);
+    let first = least(a, i, None);
     least(b, j, first)
 }
 
 // What was found, or the least id that is left of a message where that is less.
-fn least(words: &[u64], p: Places, found: Found) -> Found
+fn least(words: &[u64], p: Places, found: Option<u64>) -> Option<u64>
     requires { Lists words.now }
     ensures { result ≡ least_of (left_of words.now p) found }
 {
@@ -57,7 +37,7 @@ fn least(words: &[u64], p: Places, found: Found) -> Found
 }
 
 // What was found, or the id at the place `at` of the list at `k` where that is less.
-fn lesser(words: &[u64], k: usize, at: usize, found: Found) -> Found
+fn lesser(words: &[u64], k: usize, at: usize, found: Option<u64>) -> Option<u64>
     requires { (k + 65 ≤ length words.now) × (length (list_in words.now k) ≤ 64) }
     ensures { result ≡ lesser_of (drop at (list_in words.now k)) found }
 {
@@ -66,12 +46,10 @@ fn lesser(words: &[u64], k: usize, at: usize, found: Found) -> Found
         return found;
     }
     let id = words[k + at];
-    if found.some {
-        if found.id <= id {
-            return found;
-        }
+    match found {
+        Some(least) => Some(least.min(id)),
+        None => Some(id),
     }
-    Found { some: true, id }
 }
 
 // The sets of a message that `id` is in, where it is the least that is left.
@@ -102,15 +80,9 @@ pub fn past(p: Places, s: Standing) -> Places
     ensures { result ≡ past_of p s }
 {
     Places {
-        voters: p.voters + one(s.voters),
-        outgoing: p.outgoing + one(s.outgoing),
-        learners: p.learners + one(s.learners),
-        next: p.next + one(s.next),
+        voters: p.voters + usize::from(s.voters),
+        outgoing: p.outgoing + usize::from(s.outgoing),
+        learners: p.learners + usize::from(s.learners),
+        next: p.next + usize::from(s.next),
     }
-}
-
-fn one(b: bool) -> usize
-    ensures { result ≡ one_of b }
-{
-    if b { 1 } else { 0 }
 }
