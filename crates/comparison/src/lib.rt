@@ -92,7 +92,9 @@ fn read_both(
     requires { (length a.old ≡ 261) × (length b.old ≡ 261) }
     ensures { BothRead readable first.now second.now (told_by result) a.new b.new }
 {
-    if !readable || MAX_FILE < first.len() || MAX_FILE < second.len() {
+    let first_long = MAX_FILE < first.len();
+    let second_long = MAX_FILE < second.len();
+    if !readable || first_long || second_long {
         return Err(Refusal::Unfit);
     }
     read_sets(first, a)?;
