@@ -140,10 +140,6 @@ pub record Walked (a b old : List ℕ) (at : ℕ) (out : List ℕ) (end : ℕ) (
 abbrev pub left : List ℕ → List ℕ → Places → Places → ℕ
 left a b i j = size (left_of a i) + size (left_of b j)
 
--- where the walk begins, as the derived default says it
-pub begins : (p : Places) → (p.voters ≡ 0) × ((p.outgoing ≡ 0) × ((p.learners ≡ 0) × (p.next ≡ 0))) → p ≡ begin
-begins p e = λ i. record { voters = e.0 i; outgoing = e.1.0 i; learners = e.1.1.0 i; next = e.1.1.1 i }
-
 begin-within : Within begin
 begin-within = record { voters = omega arith; outgoing = omega arith; learners = omega arith; next = omega arith }
 

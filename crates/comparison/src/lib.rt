@@ -14,7 +14,7 @@ mod walk; // the ids of both messages, one after the other
 mod line; // the text of a line
 
 use refusal::Refusal;
-use walk::Places;
+use walk::Walk;
 
 // The most bytes that a file has.
 pub const MAX_FILE: usize = 32768;
@@ -135,14 +135,14 @@ fn put_ids(out: &mut [u8], at: usize, a: &[u64], b: &[u64]) -> usize
     ensures { Put out.old at (id_lines (message_in a.now) (message_in b.now)) out.new result }
 {
     let mut end = at;
-    let mut i = Places::default();
-    let mut j = Places::default();
-    while let Some(id) = walk::next_id(a, i, b, j) {
-        let s = walk::sets_at(a, i, id);
-        let t = walk::sets_at(b, j, id);
+    let mut first = Walk::new(a);
+    let mut second = Walk::new(b);
+    while let Some(id) = walk::next_id(&first, &second) {
+        let s = first.sets_at(id);
+        let t = second.sets_at(id);
         end = line::put_id(out, end, id, s, t);
-        i = walk::past(i, s);
-        j = walk::past(j, t);
+        first.pass(s);
+        second.pass(t);
     }
     end
 }
