@@ -9,7 +9,7 @@ pub bounds-verdict-0 : goal.bounds-verdict-0
 bounds-verdict-0 c = let r : 2 ≤ length c.args.verdict.now = c.in-Ok.ensures.2 in omega arith
 
 pub bounds-verdict-1 : goal.bounds-verdict-1
-bounds-verdict-1 c = let r : 2 ≤ length c.args.verdict.now = c.in-Ok.ensures.2 in omega (arith, length-set c.args.verdict.now 0 c.in-Ok.told.number)
+bounds-verdict-1 c = let r : 2 ≤ length c.args.verdict.now = c.in-Ok.ensures.2 in grind (arith, length-set)
 
 pub returns-in-Ok : goal.returns-in-Ok
 returns-in-Ok c = entry_done c.args.state.now c.args.id c.args.verdict.now c.in-Ok.told c.in-Ok.ensures
