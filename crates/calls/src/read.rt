@@ -148,7 +148,7 @@ fn state_holds(s: &[u8], k: usize) -> bool
     at_most(s, k + layout::AUTO_LEAVE, 1, 1, 1)
         && at_most(
             s,
-            records + layout::STATE,
+            records + layout::RECORD_STATE,
             Tracker::CAPACITY,
             layout::RECORD,
             2,
@@ -260,7 +260,7 @@ fn record_at(s: &[u8], k: usize) -> Progress
     Progress {
         matched: word(s, k),
         next_idx: word(s, k + 1),
-        state: state_named(word(s, k + layout::STATE)),
+        state: state_named(word(s, k + layout::RECORD_STATE)),
         paused: word(s, k + layout::PAUSED) == 1,
         pending_snapshot: word(s, k + 4),
         pending_request_snapshot: word(s, k + 5),

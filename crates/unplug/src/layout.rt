@@ -1,7 +1,8 @@
-// Where the blocks of a STATE begin and what a block holds, counted in words: docs/EMBEDDING.md. A SET is 64 ids and then their count.
+// Where the blocks of a STATE begin, counted in words: docs/EMBEDDING.md.
 use idset::IdSet;
 use tracker::Tracker;
 
+// A SET is 64 ids and then their count.
 pub const SET: usize = IdSet::CAPACITY + 1;
 
 pub const INCOMING: usize = 0;
@@ -20,13 +21,13 @@ pub const RECORDS: usize = TRACKED + SET;
 
 pub const RECORDS_END: usize = RECORDS + RECORD * Tracker::CAPACITY;
 
-// The words of a STATE: max_inflight is the last.
+// A STATE ends with max_inflight.
 pub const WORDS: usize = RECORDS_END + 1;
 
-// A record, and the words of it that not every number fits.
 pub const RECORD: usize = 10;
 
-pub const STATE: usize = 2;
+// Of a record, the words that not every number fits.
+pub const RECORD_STATE: usize = 2;
 
 pub const PAUSED: usize = 3;
 

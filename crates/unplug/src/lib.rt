@@ -15,7 +15,7 @@ ghost use Rattle.unplug.specs.Unplugs.{state_in, state_holds_in, answered_of};
 
 use crate::layout::{
     AUTO_LEAVE, INCOMING, LEARNERS, LEARNERS_NEXT, OUTGOING, PAUSED, RECENT_ACTIVE, RECORD,
-    RECORDS, RECORDS_END, STATE, TRACKED, WORDS,
+    RECORD_STATE, RECORDS, RECORDS_END, TRACKED, WORDS,
 };
 use idset::IdSet;
 use tracker::{Tracker, Verdict, numbers};
@@ -91,7 +91,7 @@ fn holds(s: &[u64]) -> bool
     ensures { result ≡ state_holds_in s.now }
 {
     at_most(s, AUTO_LEAVE, 1, 1, 1)
-        && at_most(s, RECORDS + STATE, Tracker::CAPACITY, RECORD, 2)
+        && at_most(s, RECORDS + RECORD_STATE, Tracker::CAPACITY, RECORD, 2)
         && at_most(s, RECORDS + PAUSED, Tracker::CAPACITY, RECORD, 1)
         && at_most(s, RECORDS + RECENT_ACTIVE, Tracker::CAPACITY, RECORD, 1)
 }
