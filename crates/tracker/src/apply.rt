@@ -47,7 +47,7 @@ pub fn applied(mut t: Tracker, conf: Configuration, log: ChangeLog, next_idx: u6
     }
 }
 
-// `applied`, under the name that the rules give it.
+// The same as `applied`: the theorem that each call has one answer names both.
 pub fn apply(t: Tracker, conf: Configuration, log: ChangeLog, next_idx: u64) -> Outcome
     ensures { result ≡ apply_of t conf log next_idx }
 {
