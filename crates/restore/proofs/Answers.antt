@@ -1,12 +1,13 @@
 -- What each branch of the functions answers. Assumes nothing.
-use Prim.Native.Nat.{ℕ, zero, suc, ◌≤◌, ◌<◌}
+use Prim.Native.Nat.{ℕ, zero, suc, ◌≤◌}
 use mathlib.Core.Path.{◌≡◌, refl, ap, ◌∙◌, sym}
 use mathlib.Core.Bool.{Bool, true, false, ◌||◌, not}
 use mathlib.Core.List.{List, [], ◌∷◌, ◌++◌}
 use native.Mathlib.Omega.{arith}
-use borrow.Author.Tests.{eq-eqb, ne_eqb, le-leb, le-ltb, lt-ltb, ltb-false, not-true, not-false}
+use borrow.Author.Tests.{eq-eqb, ne_eqb, le-leb, ltb-false, not-true, not-false}
 use lib.Dec.{ltb}
 use lib.ListN.{length, take, length-take}
+use Rattle.std.specs.List.{list_any}
 use Rattle.rules.specs.Ids.{is_empty}
 use Rattle.rules.specs.State.{Change, add_learner, add_node}
 use Rattle.rules.specs.Answers.{ok}
@@ -42,24 +43,17 @@ module _ (t : Tracker) (a : Answer) (next : ℕ) {o : Outcome} where
 
 -- ** too_long
 
-module _ (cs : ConfState) where
-  pub long_1 : 64 < cs.voters.len → true ≡ too_long cs
-  unfolding too_long
-  long_1 h = rw (lt-ltb 64 cs.voters.len h)
-
-  module _ (v : cs.voters.len ≤ 64) where
-    pub long_2 : 64 < cs.learners.len → true ≡ too_long cs
-    unfolding too_long
-    long_2 h = rw (le-ltb 64 cs.voters.len v, lt-ltb 64 cs.learners.len h)
-
-    module _ (l : cs.learners.len ≤ 64) where
-      pub long_3 : 64 < cs.voters_outgoing.len → true ≡ too_long cs
-      unfolding too_long
-      long_3 h = rw (le-ltb 64 cs.voters.len v, le-ltb 64 cs.learners.len l, lt-ltb 64 cs.voters_outgoing.len h)
-
-      pub long_4 : cs.voters_outgoing.len ≤ 64 → ltb 64 cs.learners_next.len ≡ too_long cs
-      unfolding too_long
-      long_4 h = rw (le-ltb 64 cs.voters.len v, le-ltb 64 cs.learners.len l, le-ltb 64 cs.voters_outgoing.len h)
+pub any_long : (cs : ConfState) {b : Bool}
+    → b ≡ list_any (λ n. ltb 64 n) (cs.voters.len ∷ cs.learners.len ∷ cs.voters_outgoing.len ∷ cs.learners_next.len ∷ []) → b ≡ too_long cs
+unfolding too_long
+any_long cs e = e ∙ go (ltb 64 cs.voters.len) (ltb 64 cs.learners.len) (ltb 64 cs.voters_outgoing.len) (ltb 64 cs.learners_next.len)
+  where
+    go : (v l o n : Bool) → v || (l || (o || (n || false))) ≡ v || l || o || n
+    go true l o n = refl
+    go false true o n = refl
+    go false false true n = refl
+    go false false false true = refl
+    go false false false false = refl
 
 -- none is too long
 pub record Short (cs : ConfState) : Type 0 where

@@ -3,12 +3,10 @@ use Prim.Native.Nat.{ℕ, suc, ◌+◌, ◌≤◌, ◌<◌}
 use mathlib.Core.Path.{◌≡◌, refl, ap, ◌∙◌, sym}
 use mathlib.Core.Bool.{Bool, true, false}
 use mathlib.Core.List.{List, [], ◌∷◌, ◌++◌, append_assoc, append-nil}
-use native.Mathlib.Numerals.{add-one}
 use native.Mathlib.Omega.{arith}
 use borrow.Author.Tests.{eq-eqb, le-ltb}
 use lib.Dec.{ltb}
-use lib.ListN.{length, take, get_or, set, replicate, length-append, length-take, length-set, replicate-append-replicate}
-use lib.Seq.{length-take-le, take-suc, take-suc-set}
+use lib.ListN.{length, replicate, length-append, length-take}
 use Rattle.rules.specs.State.{Change, add_learner, add_node, remove_node}
 use Rattle.rules.specs.Answers.{Verdict, each, ok, refuse, ◌▸◌}
 use Rattle.rules.specs.Calls.{kind_of, list_of, readable}
@@ -16,7 +14,7 @@ use Rattle.rules.specs.Restore.{all}
 use Rattle.tracker.specs.Bridge.{entries_in}
 use Rattle.tracker.specs.declared.ConfState.{ConfState}
 use Rattle.tracker.specs.declared.IdList.{IdList}
-use Rattle.restore.specs.Steps.{Appended, Listed, entered, ids_in, kinds_in}
+use Rattle.restore.specs.Steps.{Appended, Listed, Pushed, entered, ids_in, kinds_in}
 use Rattle.restore.specs.declared.Changes.{Changes}
 
 -- ** Reading
@@ -82,7 +80,7 @@ In c cs = Reads (ids_in c) (kinds_in c) cs
 one_more : {c r : Changes} {l : IdList} {cs : List Change} (k : ℕ) → k ≤ 2 → In c cs → Appended c l k r → In r (cs ++ all (kind_of k) (entries_in l))
 one_more {c} {r} {l} {cs} k h i a = rw (a.ids, a.kinds) (reads_append i (reads_all k h (entries_in l)))
 
-pub few-more : {c r : Changes} {l : IdList} {k : ℕ} → Appended c l k r → l.len ≤ 64 → r.len ≤ c.len + 64
+pub few-more : {c r : Changes} {l : IdList} {k : ℕ} → Appended c l k r → length l.ids ≡ 64 → r.len ≤ c.len + 64
 few-more {c} {r} {l} a h = omega (arith, a.count, length-take l.len l.ids)
 
 -- the four lists one behind the other
@@ -104,57 +102,34 @@ listed-all cs c₀ c₁ c₂ c₃ c₄ z a b d e h =
 
 -- ** The turns of `append`
 
--- c is c₀ with the first i ids of l behind it
-pub record Appending (c₀ : Changes) (l : IdList) (k : ℕ) (c : Changes) (i : ℕ) : Type 0 where
-  pub within : i ≤ l.len
-  pub held : l.len ≤ length l.ids
-  pub room : c₀.len + l.len ≤ 256
-  pub long-ids : length c.ids ≡ 256
-  pub long-kinds : length c.kinds ≡ 256
-  pub count : c.len ≡ c₀.len + i
-  pub ids : ids_in c ≡ ids_in c₀ ++ take i l.ids
-  pub kinds : kinds_in c ≡ kinds_in c₀ ++ replicate i k
+-- the ids of `left`, of those of l, are not yet behind c₀: c has the others there
+pub record Appending (c₀ : Changes) (l : IdList) (k : ℕ) (c : Changes) (left : List ℕ) : Type 0 where
+  pub room : c.len + length left ≤ 256
+  pub count : c.len + length left ≡ c₀.len + length (entries_in l)
+  pub ids : ids_in c ++ left ≡ ids_in c₀ ++ entries_in l
+  pub kinds : kinds_in c ++ replicate (length left) k ≡ kinds_in c₀ ++ replicate (length (entries_in l)) k
 
-pub appending_start : (c : Changes) (l : IdList) (k : ℕ) → l.len ≤ 64 → c.len ≤ 192 → length l.ids ≡ 64 → length c.ids ≡ 256 → length c.kinds ≡ 256 → Appending c l k c 0
-appending_start c l k h g s p q =
-    record {
-      within = omega arith;
-      held = omega arith;
-      room = omega arith;
-      long-ids = p;
-      long-kinds = q;
-      count = omega arith;
-      ids = sym (append-nil (ids_in c));
-      kinds = sym (append-nil (kinds_in c));
-    }
+pub appending_start : (c : Changes) (l : IdList) (k : ℕ) {left : List ℕ} → length l.ids ≡ 64 → c.len ≤ 192 → left ≡ entries_in l → Appending c l k c left
+appending_start c l k h g e = record { room = rw e (omega (arith, length-take l.len l.ids)); count = rw e; ids = rw e; kinds = rw e }
 
-module _ {c₀ c : Changes} {l : IdList} {k i : ℕ} (s : Appending c₀ l k c i) where
-  pub appending_end : l.len ≤ i → Appended c₀ l k c
-  appending_end h =
-      let e : i ≡ l.len = omega (arith, s.within) in
-      let n : length (entries_in l) ≡ l.len = length-take-le l.len l.ids s.held in
+module _ {c₀ c : Changes} {l : IdList} {k : ℕ} {left : List ℕ} (s : Appending c₀ l k c left) where
+  pub appending_end : left ≡ [] → Appended c₀ l k c
+  appending_end e =
       record {
-        count = omega (arith, s.count);
-        ids = s.ids ∙ rw e;
-        kinds = s.kinds ∙ rw (e, n);
+        count = omega (arith, rw e at s.count);
+        ids = sym (append-nil (ids_in c)) ∙ (rw e at s.ids);
+        kinds = sym (append-nil (kinds_in c)) ∙ (rw e at s.kinds);
       }
 
-  -- the place after the last
-  abbrev at : ℕ
-  at = c.len
+  module _ {x : ℕ} {xs : List ℕ} (e : left ≡ x ∷ xs) where
+    pub appending_room : c.len < 256
+    appending_room = omega (arith, rw e at s.room)
 
-  pub appending_next : (d : ℕ) → i < l.len → Appending c₀ l k (record { ids = set c.ids at (get_or l.ids i d); kinds = set c.kinds at k; len = at + 1 }) (i + 1)
-  appending_next d h =
-      let p : at < length c.ids = omega (arith, s.room, s.count, s.long-ids) in
-      let q : at < length c.kinds = omega (arith, s.room, s.count, s.long-kinds) in
-      let r : i < length l.ids = omega (arith, s.held) in
-      record {
-        within = omega arith;
-        held = s.held;
-        room = s.room;
-        long-ids = length-set c.ids at (get_or l.ids i d) ∙ s.long-ids;
-        long-kinds = length-set c.kinds at k ∙ s.long-kinds;
-        count = omega (arith, s.count);
-        ids = rw (add-one at, add-one i, take-suc-set c.ids at (get_or l.ids i d) p, take-suc l.ids i d r, s.ids) (append_assoc (ids_in c₀) (take i l.ids) (get_or l.ids i d ∷ []));
-        kinds = rw (add-one at, take-suc-set c.kinds at k q, s.kinds, ← replicate-append-replicate i 1 k) (append_assoc (kinds_in c₀) (replicate i k) (k ∷ []));
-      }
+    pub appending_next : {r : Changes} → Pushed c x k r → Appending c₀ l k r xs
+    appending_next {r} p =
+        record {
+          room = omega (arith, rw e at s.room, p.count);
+          count = omega (arith, rw e at s.count, p.count);
+          ids = rw p.ids (append_assoc (ids_in c) (x ∷ []) xs ∙ (rw e at s.ids));
+          kinds = rw p.kinds (append_assoc (kinds_in c) (k ∷ []) (replicate (length xs) k) ∙ (rw e at s.kinds));
+        }

@@ -31,5 +31,15 @@ module _ {vs : List Val} (c : Changes) (p : Is C.the_row c vs) where
   pub kinds-room : {cs : List Change} → Listed c cs → c.len ≤ length c.kinds
   kinds-room h = rw kinds_sized h.few
 
-pub outgoing_sized : {vs : List Val} (cs : ConfState) → Is F.the_row cs vs → length cs.voters_outgoing.ids ≡ 64
-outgoing_sized {vs} cs p = list_sized cs.voters_outgoing (LL.owed F.the_type F'.the_laws cs vs p).1.1.0
+module _ {vs : List Val} (cs : ConfState) (p : Is F.the_row cs vs) where
+  pub voters_sized : length cs.voters.ids ≡ 64
+  voters_sized = list_sized cs.voters (LL.owed F.the_type F'.the_laws cs vs p).0
+
+  pub learners_sized : length cs.learners.ids ≡ 64
+  learners_sized = list_sized cs.learners (LL.owed F.the_type F'.the_laws cs vs p).1.0
+
+  pub outgoing_sized : length cs.voters_outgoing.ids ≡ 64
+  outgoing_sized = list_sized cs.voters_outgoing (LL.owed F.the_type F'.the_laws cs vs p).1.1.0
+
+  pub staged_sized : length cs.learners_next.ids ≡ 64
+  staged_sized = list_sized cs.learners_next (LL.owed F.the_type F'.the_laws cs vs p).1.1.1.0

@@ -7,7 +7,17 @@ use Rattle.rules.specs.Restore.{Step, all, enter_step, one_by_one, wanted}
 use Rattle.tracker.specs.Bridge.{entries_in, lists_of}
 use Rattle.tracker.specs.declared.ConfState.{ConfState}
 use Rattle.tracker.specs.declared.IdList.{IdList}
+use Rattle.changes.specs.declared.table.Kind.{Kind}
+use Rattle.changes.specs.declared.table.Kind.TheVariants.{AddNode, AddLearnerNode, RemoveNode}
 use Rattle.restore.specs.declared.Changes.{Changes}
+
+-- ** Kinds
+
+-- "0 AddNode, 1 RemoveNode, 2 AddLearnerNode"
+abbrev pub number_in : Kind → ℕ
+number_in AddNode = 0
+number_in RemoveNode = 1
+number_in AddLearnerNode = 2
 
 -- ** A change list in arrays
 
@@ -16,6 +26,12 @@ ids_in c = take c.len c.ids
 
 abbrev pub kinds_in : Changes → List ℕ
 kinds_in c = take c.len c.kinds
+
+-- r is c with x, of the kind k
+pub record Pushed (c : Changes) (x k : ℕ) (r : Changes) : Type 0 where
+  pub count : r.len ≡ c.len + 1
+  pub ids : ids_in r ≡ ids_in c ++ (x ∷ [])
+  pub kinds : kinds_in r ≡ kinds_in c ++ (k ∷ [])
 
 -- r is c with each id of l, of the kind k
 pub record Appended (c : Changes) (l : IdList) (k : ℕ) (r : Changes) : Type 0 where

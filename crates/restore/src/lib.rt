@@ -2,16 +2,17 @@
 // Rust's is `restore_step_by_step`: document 02, g).
 #![tactic(auto)]
 
-ghost use Rattle.std.specs.Prelude.{◌≡◌, true, false, [], ◌∷◌, ◌≤◌};
-ghost use Rattle.rules.specs.Calls.{kind_of};
+ghost use Rattle.std.specs.Prelude.{◌≡◌, true, false, [], ◌∷◌, ◌≤◌, ◌<◌};
+ghost use Rattle.changes.specs.Table.{kind_named};
 ghost use Rattle.rules.specs.Restore.{all, enter_step, one_by_one, wanted};
 ghost use Rattle.tracker.specs.Bridge.{entries_in, lists_of};
 ghost use Rattle.tracker.specs.Form.{tracker_well_formed};
 ghost use Rattle.changer.specs.Calls.{simple_answer};
 ghost use Rattle.restore.specs.Restore.{applied_to, whole_of, too_long, steps_of, step_by_step_of, restore_of};
-ghost use Rattle.restore.specs.Steps.{Appended, Listed, entered, joint_steps};
+ghost use Rattle.restore.specs.Steps.{Appended, Listed, Pushed, entered, joint_steps, number_in};
 
 use changer::{Answer, enter_joint, simple};
+use changes::table::Kind;
 use tracker::apply::{applied, refused};
 use tracker::{ConfState, IdList, Outcome, Tracker, numbers};
 
@@ -27,8 +28,8 @@ pub struct Changes {
 pub fn restore(t: Tracker, cs: ConfState, next_idx: u64) -> Outcome
     ensures { result ≡ restore_of t cs next_idx }
 {
-    let o = restore_step_by_step(t, cs, next_idx);
-    whole(t, o)
+    let outcome = restore_step_by_step(t, cs, next_idx);
+    whole(t, outcome)
 }
 
 // What a restore came to, or the state given under the number and id of its refusal.
@@ -51,8 +52,7 @@ pub fn restore_step_by_step(t: Tracker, cs: ConfState, next_idx: u64) -> Outcome
     if too_long(cs) {
         return refused(t, numbers::LIST_TOO_LONG, 0);
     }
-    let outgoing = cs.voters_outgoing;
-    if outgoing.len == 0 {
+    if cs.voters_outgoing.len == 0 {
         return restore_single(t, cs, next_idx);
     }
     restore_joint(t, cs, next_idx)
@@ -62,20 +62,14 @@ pub fn restore_step_by_step(t: Tracker, cs: ConfState, next_idx: u64) -> Outcome
 fn too_long(cs: ConfState) -> bool
     ensures { result ≡ too_long cs }
 {
-    let voters = cs.voters;
-    if IdList::CAPACITY < voters.len {
-        return true;
-    }
-    let learners = cs.learners;
-    if IdList::CAPACITY < learners.len {
-        return true;
-    }
-    let outgoing = cs.voters_outgoing;
-    if IdList::CAPACITY < outgoing.len {
-        return true;
-    }
-    let staged = cs.learners_next;
-    IdList::CAPACITY < staged.len
+    [
+        cs.voters.len,
+        cs.learners.len,
+        cs.voters_outgoing.len,
+        cs.learners_next.len,
+    ]
+    .iter()
+    .any(|len| IdList::CAPACITY < *len)
 }
 
 // No outgoing: each voter, learner and staged id in list order as a `simple` of its own; the flag is ignored.
@@ -83,75 +77,80 @@ fn restore_single(t: Tracker, cs: ConfState, next_idx: u64) -> Outcome
     requires { tracker_well_formed t ≡ true }
     ensures { result ≡ steps_of t next_idx (one_by_one (wanted (lists_of cs))) }
 {
-    let voters = one_by_one(t, cs.voters, 0, next_idx);
+    let voters = one_by_one(t, cs.voters, Kind::AddNode, next_idx);
     if voters.number != numbers::ACCEPTED {
         return voters;
     }
-    let t = voters.tracker;
-    let learners = one_by_one(t, cs.learners, 2, next_idx);
+    let learners = one_by_one(voters.tracker, cs.learners, Kind::AddLearnerNode, next_idx);
     if learners.number != numbers::ACCEPTED {
         return learners;
     }
-    let t = learners.tracker;
-    one_by_one(t, cs.learners_next, 2, next_idx)
+    one_by_one(
+        learners.tracker,
+        cs.learners_next,
+        Kind::AddLearnerNode,
+        next_idx,
+    )
 }
 
 // If there are outgoing voters, first add them one by one so that the (non-joint) config has them all; then enter.
 fn restore_joint(t: Tracker, cs: ConfState, next_idx: u64) -> Outcome
-    requires { (tracker_well_formed t ≡ true) × (too_long cs ≡ false) }
+    requires { tracker_well_formed t ≡ true }
     ensures { result ≡ steps_of t next_idx (joint_steps cs) }
 {
-    let outgoing = one_by_one(t, cs.voters_outgoing, 0, next_idx);
+    let outgoing = one_by_one(t, cs.voters_outgoing, Kind::AddNode, next_idx);
     if outgoing.number != numbers::ACCEPTED {
         return outgoing;
     }
-    let t = outgoing.tracker;
-    enter(t, cs, next_idx)
+    enter(outgoing.tracker, cs, next_idx)
 }
 
 // One `enter_joint` with the changes that lead from the outgoing voters to the rest, and the flag.
 fn enter(t: Tracker, cs: ConfState, next_idx: u64) -> Outcome
-    requires { (tracker_well_formed t ≡ true) × (too_long cs ≡ false) }
+    requires { tracker_well_formed t ≡ true }
     ensures { result ≡ steps_of t next_idx (enter_step cs.auto_leave (entered cs) ∷ []) }
 {
     let incoming = to_conf_change_single(cs);
     let n = incoming.len;
-    let ids = incoming.ids;
-    let kinds = incoming.kinds;
-    let a = enter_joint(t, cs.auto_leave, &ids[..n], &kinds[..n]);
-    apply_answer(t, a, next_idx)
+    let answer = enter_joint(t, cs.auto_leave, &incoming.ids[..n], &incoming.kinds[..n]);
+    apply_answer(t, answer, next_idx)
 }
 
 // Each id of the list as a `simple` of its own, of this kind.
-fn one_by_one(t: Tracker, list: IdList, kind: u8, next_idx: u64) -> Outcome
-    requires { (tracker_well_formed t ≡ true) × (kind ≤ 2) }
-    ensures { result ≡ steps_of t next_idx (one_by_one (all (kind_of kind) (entries_in list))) }
+fn one_by_one(t: Tracker, list: IdList, kind: Kind, next_idx: u64) -> Outcome
+    requires { tracker_well_formed t ≡ true }
+    ensures { result ≡ steps_of t next_idx (one_by_one (all (kind_named kind) (entries_in list))) }
 {
-    let mut o = refused(t, numbers::ACCEPTED, 0);
-    let n = list.len;
-    let mut i = 0;
-    while i < IdList::CAPACITY {
-        if n <= i {
-            return o;
+    let mut outcome = Outcome {
+        number: numbers::ACCEPTED,
+        id: 0,
+        tracker: t,
+    };
+    for id in list.ids.iter().take(list.len) {
+        outcome = step(outcome.tracker, *id, kind, next_idx);
+        if outcome.number != numbers::ACCEPTED {
+            return outcome;
         }
-        let t = o.tracker;
-        o = step(t, list.ids[i], kind, next_idx);
-        if o.number != numbers::ACCEPTED {
-            return o;
-        }
-        i += 1;
     }
-    o
+    outcome
 }
 
 // One change as a `simple` of its own, applied.
-fn step(t: Tracker, id: u64, kind: u8, next_idx: u64) -> Outcome
-    ensures { result ≡ applied_to t (simple_answer t (id ∷ []) (kind ∷ [])) next_idx }
+fn step(t: Tracker, id: u64, kind: Kind, next_idx: u64) -> Outcome
+    ensures { result ≡ applied_to t (simple_answer t (id ∷ []) (number_in kind ∷ [])) next_idx }
 {
-    let ids = [id];
-    let kinds = [kind];
-    let a = simple(t, &ids, &kinds);
-    apply_answer(t, a, next_idx)
+    apply_answer(t, simple(t, &[id], &[number_of(kind)]), next_idx)
+}
+
+// A kind's number in a change list.
+fn number_of(kind: Kind) -> u8
+    ensures { result ≡ number_in kind }
+{
+    match kind {
+        Kind::AddNode => 0,
+        Kind::RemoveNode => 1,
+        Kind::AddLearnerNode => 2,
+    }
 }
 
 // An accepted answer is applied at once to the state that it was asked of; a refused one leaves it.
@@ -161,42 +160,51 @@ pub fn apply_answer(t: Tracker, a: Answer, next_idx: u64) -> Outcome
     if a.number != numbers::ACCEPTED {
         return refused(t, a.number, a.id);
     }
-    let conf = a.conf;
-    let log = a.log;
-    applied(t, conf, log, next_idx)
+    applied(t, a.conf, a.log, next_idx)
 }
 
 // Translates a conf state into the operations that, when applied to the config made of the outgoing voters, represent it: remove each outgoing,
 // add each voter, add-learner each learner, then each staged.
 fn to_conf_change_single(cs: ConfState) -> Changes
-    requires { too_long cs ≡ false }
     ensures { Listed result (entered cs) }
 {
-    let none = Changes {
-        ids: [0u64; changes::MAX_CHANGES],
-        kinds: [0u8; changes::MAX_CHANGES],
-        len: 0,
-    };
-    let removed = append(none, cs.voters_outgoing, 1);
-    let added = append(removed, cs.voters, 0);
-    let learners = append(added, cs.learners, 2);
-    append(learners, cs.learners_next, 2)
+    let mut list = Changes::new();
+    list.append(&cs.voters_outgoing, Kind::RemoveNode);
+    list.append(&cs.voters, Kind::AddNode);
+    list.append(&cs.learners, Kind::AddLearnerNode);
+    list.append(&cs.learners_next, Kind::AddLearnerNode);
+    list
 }
 
-// The list with a change of this kind for each id more.
-fn append(changes: Changes, list: IdList, kind: u8) -> Changes
-    requires { (list.len ≤ 64) × (changes.len ≤ 192) }
-    ensures { Appended changes list kind result }
-{
-    let mut c = changes;
-    let n = list.len;
-    let mut i = 0;
-    while i < n {
-        let at = c.len;
-        c.ids[at] = list.ids[i];
-        c.kinds[at] = kind;
-        c.len = at + 1;
-        i += 1;
+impl Changes {
+    // No change.
+    fn new() -> Self
+        ensures { result.len ≡ 0 }
+    {
+        Changes {
+            ids: [0; changes::MAX_CHANGES],
+            kinds: [0; changes::MAX_CHANGES],
+            len: 0,
+        }
     }
-    c
+
+    // One change more.
+    fn push(&mut self, id: u64, kind: Kind)
+        requires { self.old.len < 256 }
+        ensures { Pushed self.old id (number_in kind) self.new }
+    {
+        self.ids[self.len] = id;
+        self.kinds[self.len] = number_of(kind);
+        self.len += 1;
+    }
+
+    // A change of this kind for each id of `added` more.
+    fn append(&mut self, added: &IdList, kind: Kind)
+        requires { self.old.len ≤ 192 }
+        ensures { Appended self.old added.now (number_in kind) self.new }
+    {
+        for id in added.ids.iter().take(added.len) {
+            self.push(*id, kind);
+        }
+    }
 }

@@ -5,21 +5,13 @@ use Rattle.restore.proofs.Sizes.{ids-room, kinds-room}
 use Rattle.restore.proofs.Answers.{entered_once}
 use Rattle.restore.proofs.enter.Goals as goal
 
-pub slice_bounds-ids-end : goal.slice_bounds-ids-end
-slice_bounds-ids-end c = let made = c.to_conf_change_single-incoming in
-    ids-room made.result made.type_inv made.ensures
-
 pub slice_bounds-enter_joint-end : goal.slice_bounds-enter_joint-end
 slice_bounds-enter_joint-end c = let made = c.to_conf_change_single-incoming in
     sym (length-take-le _ _ (ids-room made.result made.type_inv made.ensures))
-
-pub slice_bounds-kinds-end : goal.slice_bounds-kinds-end
-slice_bounds-kinds-end c = let made = c.to_conf_change_single-incoming in
-    kinds-room made.result made.type_inv made.ensures
 
 pub slice_bounds-enter_joint-end-2 : goal.slice_bounds-enter_joint-end-2
 slice_bounds-enter_joint-end-2 c = let made = c.to_conf_change_single-incoming in
     sym (length-take-le _ _ (kinds-room made.result made.type_inv made.ensures))
 
 pub returns : goal.returns
-returns c = entered_once _ c.requires.0 c.args.cs _ _ c.to_conf_change_single-incoming.ensures c.enter_joint-a.ensures c.apply_answer.ensures
+returns c = entered_once _ c.requires c.args.cs _ _ c.to_conf_change_single-incoming.ensures c.enter_joint-answer.ensures c.apply_answer.ensures

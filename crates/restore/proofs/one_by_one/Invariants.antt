@@ -1,10 +1,8 @@
--- `one_by_one`: what is left of the list answers for all of it. The measure is what is left of its 64 places. Assumes nothing.
-use Prim.Native.Nat.{◌-◌}
+-- `one_by_one`: what is left of the list answers for all of it. Assumes nothing.
+use Rattle.std.proofs.Common.{take}
+use Rattle.tracker.specs.Bridge.{entries_in}
 use Rattle.restore.proofs.OneByOne.{Stepping}
 use Rattle.restore.proofs.one_by_one.Given as goal
 
-abbrev pub invariant-loop-i : goal.invariant-loop-i
-invariant-loop-i l = Stepping l.next_idx l.kind l.n l.list.ids l.initial.o l.o l.i
-
-abbrev pub decreases-loop-i : goal.decreases-loop-i
-decreases-loop-i l = 64 - l.i
+abbrev pub invariant-loop-id : goal.invariant-loop-id
+invariant-loop-id l = Stepping l.next_idx l.kind (entries_in l.fn.list) l.fn.t l.outcome (take l.id-iterator.n l.id-iterator.iter.rest.now)

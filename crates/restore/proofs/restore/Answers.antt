@@ -3,4 +3,4 @@ use Rattle.restore.proofs.Restored.{made-whole}
 use Rattle.restore.proofs.restore.Goals as goal
 
 pub returns : goal.returns
-returns c = made-whole _ _ _ c.restore_step_by_step-o.ensures c.whole.ensures
+returns c = made-whole _ _ _ c.restore_step_by_step-outcome.ensures c.whole.ensures

@@ -13,11 +13,11 @@ returns-then-too_long c = steps_2 _ _ _ (well _ c.is_malformed.ensures c.if-is_m
 pub restore_single-requires : goal.restore_single-requires
 restore_single-requires c = well _ c.is_malformed.ensures c.if-is_malformed.false
 
-pub returns-then-outgoing-eq0 : goal.returns-then-outgoing-eq0
-returns-then-outgoing-eq0 c = steps_3 _ (well _ c.is_malformed.ensures c.if-is_malformed.false) _ (sym c.too_long.ensures ∙ c.if-too_long.false) _ c.if-outgoing-eq0.true c.restore_single.ensures
+pub returns-then-cs-eq0 : goal.returns-then-cs-eq0
+returns-then-cs-eq0 c = steps_3 _ (well _ c.is_malformed.ensures c.if-is_malformed.false) _ (sym c.too_long.ensures ∙ c.if-too_long.false) _ c.if-cs-eq0.true c.restore_single.ensures
 
 pub restore_joint-requires : goal.restore_joint-requires
-restore_joint-requires c = (well _ c.is_malformed.ensures c.if-is_malformed.false, sym c.too_long.ensures ∙ c.if-too_long.false)
+restore_joint-requires c = well _ c.is_malformed.ensures c.if-is_malformed.false
 
 pub returns : goal.returns
-returns c = steps_4 _ (well _ c.is_malformed.ensures c.if-is_malformed.false) _ (sym c.too_long.ensures ∙ c.if-too_long.false) _ c.if-outgoing-eq0.false (outgoing_sized c.args.cs c.well_formed.1.0) c.restore_joint.ensures
+returns c = steps_4 _ (well _ c.is_malformed.ensures c.if-is_malformed.false) _ (sym c.too_long.ensures ∙ c.if-too_long.false) _ c.if-cs-eq0.false (outgoing_sized c.args.cs c.well_formed.1.0) c.restore_joint.ensures

@@ -1,26 +1,29 @@
 -- `to_conf_change_single`: the four lists one behind the other. Assumes nothing.
-use mathlib.Core.Path.{refl}
 use native.Mathlib.Omega.{arith}
-use Rattle.restore.proofs.Answers.{Short, not-long}
+use Rattle.restore.proofs.Sizes.{learners_sized, outgoing_sized, staged_sized, voters_sized}
 use Rattle.restore.proofs.Lists.{few-more, listed-all}
 use Rattle.restore.proofs.to_conf_change_single.Goals as goal
 
-pub append-removed-requires : goal.append-removed-requires
-append-removed-requires c = ((not-long _ c.requires).outgoing, omega arith)
+pub append-requires-2 : goal.append-requires-2
+append-requires-2 c = omega (arith, few-more c.append.ensures (outgoing_sized c.args.cs c.well_formed.0))
 
-pub append-added-requires : goal.append-added-requires
-append-added-requires c = let s : Short _ = not-long _ c.requires in
-    (s.voters, omega (arith, few-more c.append-removed.ensures s.outgoing))
+pub append-requires-3 : goal.append-requires-3
+append-requires-3 c = omega (arith, few-more c.append.ensures (outgoing_sized c.args.cs c.well_formed.0), few-more c.append-2.ensures (voters_sized c.args.cs c.well_formed.0))
 
-pub append-learners-requires : goal.append-learners-requires
-append-learners-requires c = let s : Short _ = not-long _ c.requires in
-    (s.learners, omega (arith, few-more c.append-removed.ensures s.outgoing, few-more c.append-added.ensures s.voters))
-
-pub append-requires : goal.append-requires
-append-requires c = let s : Short _ = not-long _ c.requires in
-    (s.staged, omega (arith, few-more c.append-removed.ensures s.outgoing, few-more c.append-added.ensures s.voters, few-more c.append-learners.ensures s.learners))
+pub append-requires-4 : goal.append-requires-4
+append-requires-4 c = omega (
+  arith,
+  few-more c.append.ensures (outgoing_sized c.args.cs c.well_formed.0),
+  few-more c.append-2.ensures (voters_sized c.args.cs c.well_formed.0),
+  few-more c.append-3.ensures (learners_sized c.args.cs c.well_formed.0),
+)
 
 pub returns : goal.returns
-returns c = let s : Short _ = not-long _ c.requires in
-    listed-all c.args.cs _ _ _ _ _ refl c.append-removed.ensures c.append-added.ensures c.append-learners.ensures c.append.ensures
-    (omega (arith, few-more c.append-removed.ensures s.outgoing, few-more c.append-added.ensures s.voters, few-more c.append-learners.ensures s.learners, few-more c.append.ensures s.staged))
+returns c = listed-all c.args.cs _ _ _ _ _ c.new-list.ensures c.append.ensures c.append-2.ensures c.append-3.ensures c.append-4.ensures
+    (omega (
+      arith,
+      few-more c.append.ensures (outgoing_sized c.args.cs c.well_formed.0),
+      few-more c.append-2.ensures (voters_sized c.args.cs c.well_formed.0),
+      few-more c.append-3.ensures (learners_sized c.args.cs c.well_formed.0),
+      few-more c.append-4.ensures (staged_sized c.args.cs c.well_formed.0),
+    ))
