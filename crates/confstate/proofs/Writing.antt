@@ -221,11 +221,6 @@ answer-refused ws old {n} e h = by (is_conf_state ws) (overlong (message_in ws))
     by true false e = absurd (h e)
     by false o e = (omega arith, refl)
 
-pub number-few : (d : Unwritten) → unwritten_number d ≤ 31
-number-few NoConfState = omega arith
-number-few LongList = omega arith
-number-few SmallOutput = omega arith
-
 number-some : (d : Unwritten) → unwritten_number d ≡ 0 → ⊥
 number-some NoConfState e = omega arith
 number-some LongList e = omega arith
