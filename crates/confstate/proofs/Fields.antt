@@ -4,7 +4,7 @@ use mathlib.Core.Path.{◌≡◌, refl, ap, sym, subst, ◌∙◌}
 use mathlib.Core.Bool.{Bool, true, false, not, cond}
 use mathlib.Core.List.{List, [], ◌∷◌, ◌++◌}
 use native.Mathlib.Omega.{arith}
-use borrow.Author.Tests.{lt-ltb, le-ltb, le-leb, lt-leb, ne_eqb, not-true, not-false}
+use borrow.Author.Tests.{le-leb, lt-leb, ne_eqb, not-true, not-false}
 use lib.Dec.{eqb}
 use lib.ListN.{length, take, drop, get_or, set, length-append, length-drop}
 use lib.Seq.{drop-drop}
@@ -19,7 +19,7 @@ use Rattle.wire.specs.declared.Fault.{Fault}
 use Rattle.wire.specs.declared.Fault.TheVariants as faults
 use Rattle.wire.proofs.Found.{read-bad, read_found, found_within}
 use Rattle.confstate.specs.Words.{flag_word, list_words, conf_state_words, list_in, message_in}
-use Rattle.confstate.specs.Steps.{Holding, Listing, Grows, stop, Takes, closed, held_at, fixed_at}
+use Rattle.confstate.specs.Steps.{Holding, Listing, Grows, stop, Takes, closed, held_at}
 use Rattle.confstate.specs.Refusals.{number_of, refusal_for, told}
 use Rattle.confstate.specs.declared.read.Refusal.{Refusal}
 use Rattle.confstate.specs.declared.read.Refusal.TheVariants.{CutShort, Malformed, LongList}
@@ -164,9 +164,6 @@ misnumbered_yes f e h = not-true (numbered f) (sym e ∙ h)
 pub misnumbered_no : (f : ℕ) {b : Bool} → b ≡ not (numbered f) → b ≡ false → numbered f ≡ true
 misnumbered_no f e h = not-false (numbered f) (sym e ∙ h)
 
-pub misnumbered_some : (f : ℕ) {b : Bool} → b ≡ not (numbered f) → b ≡ false → 0 < f
-misnumbered_some f e h = numbered-some f (misnumbered_no f e h)
-
 pub past_5 : {f : ℕ} → 5 ≤ f → (f ≡ 5 → ⊥) → 5 < f
 past_5 h g = omega arith
 
@@ -246,22 +243,3 @@ module _ (l : List ℕ) (q f : ℕ) (w : ConfState) {x : Result Varint Fault} (e
 -- the bytes that are lent, as many as the length says
 pub grown_part : (old l : List ℕ) (s j n : ℕ) (g : Result (Unit {0}) Refusal) (new : List ℕ) → j ≡ n → Grows (grown old (packed (take j (drop s l)))) g new → Grows (grown old (numbers (bytes (take n (drop s l))))) g new
 grown_part old l s j n g new e h = subst (λ (i : ℕ). Grows (grown old (packed (take i (drop s l)))) g new) e h
-
--- ** Eight or four bytes
-
-module _ (room q f n : ℕ) where
-  pub fixed_28 : {t : Result ℕ Refusal} → room < n → t ≡ Err CutShort → t ≡ fixed_at room q f n
-  unfolding fixed_at
-  fixed_28 h e = e ∙ sym (rw (lt-leb n room h))
-
-  pub fixed_29 : {t : Result ℕ Refusal} {b : Bool} → n ≤ room → b ≡ not (numbered f) → b ≡ true → t ≡ Err Malformed → t ≡ fixed_at room q f n
-  unfolding fixed_at
-  fixed_29 h a b e = e ∙ sym (rw (le-leb n room h, misnumbered_yes f a b))
-
-  pub fixed_known : {t : Result ℕ Refusal} {b : Bool} → n ≤ room → b ≡ not (numbered f) → b ≡ false → f < 6 → t ≡ Err Malformed → t ≡ fixed_at room q f n
-  unfolding fixed_at
-  fixed_known h a b k e = e ∙ sym (rw (le-leb n room h, misnumbered_no f a b, le-ltb 5 f (omega arith)))
-
-  pub fixed-go : {b : Bool} → n ≤ room → b ≡ not (numbered f) → b ≡ false → 6 ≤ f → Ok (q + n) ≡ fixed_at room q f n
-  unfolding fixed_at
-  fixed-go h a b k = sym (rw (le-leb n room h, misnumbered_no f a b, lt-ltb 5 f (omega arith)))

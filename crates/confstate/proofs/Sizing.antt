@@ -190,16 +190,6 @@ module _ (ws : List ℕ) (h : length ws ≡ 261) where
               let s : ltb 64 (length (list_in ws 195)) ≡ false = le-ltb 64 (length (list_in ws 195)) (omega (arith, count-few ws 195 (omega arith) e)) in
               rw (is-conf-state ws h k, short_1, short_2, short_3, s)
 
--- any number of a refusal is small
-pub refusal-few : (ws : List ℕ) → refusal_of ws ≤ 2
-unfolding refusal_of
-refusal-few ws = by (is_conf_state ws) (overlong (message_in ws))
-  where
-    by : (t o : Bool) → cond t (cond o 2 0) 1 ≤ 2
-    by true true = omega arith
-    by true false = omega arith
-    by false o = omega arith
-
 -- words that are not refused
 few : (m : ConfState) → overlong m ≡ false → Few64 m
 unfolding overlong

@@ -26,7 +26,7 @@ use Rattle.confstate.specs.Steps.{Holding, Reads, Step, stop, go, Takes, closed,
 use Rattle.confstate.specs.Refusals.{refusal_for, told}
 use Rattle.confstate.specs.declared.read.Refusal.{Refusal}
 use Rattle.confstate.specs.declared.read.Refusal.TheVariants.{CutShort, Malformed}
-use Rattle.confstate.proofs.Words.{holding, words_back, words-length}
+use Rattle.confstate.proofs.Words.{holding, words_back}
 use Rattle.confstate.proofs.Fields.{held-bad, held_29, held-go, bad-told, named, numbered-some, unknown-taken}
 
 -- ** The payload, by the wire type
@@ -165,9 +165,6 @@ pub record Going (l ws : List ℕ) (at : ℕ) : Type 0 where
   pub holds : Holding ws
   pub spot : at ≤ length l
   pub same : read_row (row (drop at l)) (message_in ws) ≡ read l
-
-pub start-length : {ws : List ℕ} → ws ≡ conf_state_words no_conf_state → length ws ≡ 261
-start-length e = ap length e ∙ words-length no_conf_state few_none
 
 pub going_start : (l : List ℕ) {ws : List ℕ} → ws ≡ conf_state_words no_conf_state → Going l ws 0
 unfolding read

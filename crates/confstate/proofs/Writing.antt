@@ -22,7 +22,7 @@ use Rattle.confstate.specs.Unwritten.{unwritten_number, said, answered}
 use Rattle.confstate.specs.declared.write.Sizes.{Sizes}
 use Rattle.confstate.specs.declared.write.Unwritten.{Unwritten}
 use Rattle.confstate.specs.declared.write.Unwritten.TheVariants.{NoConfState, LongList, SmallOutput}
-use Rattle.confstate.proofs.Sizing.{packed-at, packed-past, list_none, list_some, is-conf-state}
+use Rattle.confstate.proofs.Sizing.{packed-at, packed-past, list_none, list_some, block_1, block_2, block_3, block_4, is-conf-state}
 
 -- a text that fits ends in the slice
 put-end : {l x m : List ℕ} {p q : ℕ} → length l ≤ last → p + length x ≤ length l → Put l p x m q → q ≡ p + length x
@@ -94,30 +94,30 @@ flag-put {l} {n} {at} h k r = rw (flag-some n h k) (record { bytes = rw add-one;
 abbrev pieces : ℕ → List ℕ → List ℕ
 pieces f xs = (8 * f + 2) ∷ (varint_of (length (packed_of xs)) ++ packed_of xs)
 
-module _ {f p packed : ℕ} {xs : List ℕ} {room : ℕ} (s : Listable f p packed xs room) where
-  pub listing_none : {l : List ℕ} → packed ≡ 0 → room ≤ last → Put l p (list_field f xs) l p
-  listing_none e h = rw (list_none f xs (sym s.size ∙ e)) (put_none (omega (arith, s.fits)))
+module _ {f p packed : ℕ} {ws : List ℕ} {k room : ℕ} (s : Listable f p packed ws k room) where
+  pub listing_none : {l : List ℕ} → packed ≡ 0 → room ≤ last → Put l p (list_field f (list_in ws k)) l p
+  listing_none e h = rw (list_none f (list_in ws k) (sym s.size ∙ e)) (put_none (omega (arith, s.fits)))
 
   module _ (e : packed ≡ 0 → ⊥) where
-    some : list_field f xs ≡ pieces f xs
-    some = list_some f xs (λ z. e (s.size ∙ z)) s.tag
+    some : list_field f (list_in ws k) ≡ pieces f (list_in ws k)
+    some = list_some f (list_in ws k) (λ z. e (s.size ∙ z)) s.tag
 
-    pub listing-room : p + (1 + (length (varint_of packed) + length (packed_of xs))) ≤ room
+    pub listing-room : p + (1 + (length (varint_of packed) + length (packed_of (list_in ws k)))) ≤ room
     listing-room =
-        omega (arith, s.fits, ap length some, length-append (varint_of (length (packed_of xs))) (packed_of xs), ap (λ (n : ℕ). length (varint_of n)) s.size)
+        omega (arith, s.fits, ap length some, length-append (varint_of (length (packed_of (list_in ws k)))) (packed_of (list_in ws k)), ap (λ (n : ℕ). length (varint_of n)) s.size)
 
     module _ (l : List ℕ) (h : length l ≤ last) (r : room ≡ length l) where
       pub listing-first : p + 1 + length (varint_of packed) ≤ length (set l p (8 * f + 2))
       listing-first = omega (arith, listing-room, length-set l p (8 * f + 2))
 
-      module _ {m : List ℕ} {q : ℕ} (g : Put (set l p (8 * f + 2)) (p + 1) (varint_of packed) m q) where
-        pub listing-next : q + length (packed_of xs) ≤ length m
-        listing-next = omega (arith, listing-room, g.end, put-length g, length-set l p (8 * f + 2))
+      module _ {m : List ℕ} {q : ℕ} (g : Put (set l p (8 * f + 2)) (p + 1) (varint_of packed) m q) {ys : List ℕ} (y : ys ≡ list_in ws k) where
+        pub listing-next : q + length (packed_of ys) ≤ length m
+        listing-next = omega (arith, listing-room, g.end, put-length g, length-set l p (8 * f + 2), ap (λ (l : List ℕ). length (packed_of l)) y)
 
-        pub listing-put : {n : List ℕ} {t : ℕ} → Put m q (packed_of xs) n t → Put l p (list_field f xs) n t
+        pub listing-put : {n : List ℕ} {t : ℕ} → Put m q (packed_of ys) n t → Put l p (list_field f (list_in ws k)) n t
         listing-put i =
             let b : Put l p ((8 * f + 2) ∷ []) (set l p (8 * f + 2)) (p + 1) = record { bytes = refl; end = omega (arith, listing-room) } in
-            rw some (put_then h b (put_then (omega (arith, length-set l p (8 * f + 2))) (rw s.size at g) i))
+            rw some (put_then h b (put_then (omega (arith, length-set l p (8 * f + 2))) (rw s.size at g) (rw y at i)))
 
 -- ** The message
 
@@ -140,65 +140,57 @@ module _ {ws : List ℕ} {z : Sizes} (l : List ℕ) (h : length l ≤ last) (r :
   unfolding encoded message_in
   room_1 = omega (arith, r.2)
 
-  pub ready_1 : {xs : List ℕ} → xs ≡ list_in ws 0 → Listable 1 0 z.voters xs (length l)
+  pub ready_1 : Listable 1 0 z.voters ws 0 (length l)
   unfolding sizes_of message_in
-  ready_1 x = rw x (record {
+  ready_1 = record {
+    block = block_1 r.0;
     tag = omega arith;
     size = ap (λ (y : Sizes). y.voters) r.1;
     fits = omega (arith, room_1, length-append (list_field 1 (list_in ws 0)) (from_2 (message_in ws)));
-  })
+  }
 
-  module _ {xs1 : List ℕ} (x1 : xs1 ≡ list_in ws 0) {m : List ℕ} {a : ℕ} (y1 : Put l 0 (list_field 1 xs1) m a) where
-    f : Put l 0 (list_field 1 (list_in ws 0)) m a
-    f = rw x1 at y1
-
+  module _ {m : List ℕ} {a : ℕ} (f : Put l 0 (list_field 1 (list_in ws 0)) m a) where
     room_2 : a + length (from_2 (message_in ws)) ≤ length m
     room_2 = put-room h (from_2 (message_in ws)) room_1 f
 
-    pub ready_2 : {xs : List ℕ} → xs ≡ list_in ws 65 → Listable 2 a z.learners xs (length m)
+    pub ready_2 : Listable 2 a z.learners ws 65 (length m)
     unfolding sizes_of message_in
-    ready_2 x = rw x (record {
+    ready_2 = record {
+      block = block_2 r.0;
       tag = omega arith;
       size = ap (λ (y : Sizes). y.learners) r.1;
       fits = omega (arith, room_2, length-append (list_field 2 (list_in ws 65)) (from_3 (message_in ws)));
-    })
+    }
 
-    module _ {xs2 : List ℕ} (x2 : xs2 ≡ list_in ws 65) {n : List ℕ} {b : ℕ} (y2 : Put m a (list_field 2 xs2) n b) where
-      g : Put m a (list_field 2 (list_in ws 65)) n b
-      g = rw x2 at y2
-
+    module _ {n : List ℕ} {b : ℕ} (g : Put m a (list_field 2 (list_in ws 65)) n b) where
       room_3 : b + length (from_3 (message_in ws)) ≤ length n
       unfolding message_in
       room_3 = put-room (omega (arith, put-length f)) (from_3 (message_in ws)) room_2 g
 
-      pub ready_3 : {xs : List ℕ} → xs ≡ list_in ws 130 → Listable 3 b z.outgoing xs (length n)
+      pub ready_3 : Listable 3 b z.outgoing ws 130 (length n)
       unfolding sizes_of message_in
-      ready_3 x = rw x (record {
+      ready_3 = record {
+        block = block_3 r.0;
         tag = omega arith;
         size = ap (λ (y : Sizes). y.outgoing) r.1;
         fits = omega (arith, room_3, length-append (list_field 3 (list_in ws 130)) (from_4 (message_in ws)));
-      })
+      }
 
-      module _ {xs3 : List ℕ} (x3 : xs3 ≡ list_in ws 130) {o : List ℕ} {d : ℕ} (y3 : Put n b (list_field 3 xs3) o d) where
-        i : Put n b (list_field 3 (list_in ws 130)) o d
-        i = rw x3 at y3
-
+      module _ {o : List ℕ} {d : ℕ} (i : Put n b (list_field 3 (list_in ws 130)) o d) where
         room_4 : d + length (from_4 (message_in ws)) ≤ length o
         unfolding message_in
         room_4 = put-room (omega (arith, put-length f, put-length g)) (from_4 (message_in ws)) room_3 i
 
-        pub ready_4 : {xs : List ℕ} → xs ≡ list_in ws 195 → Listable 4 d z.next xs (length o)
+        pub ready_4 : Listable 4 d z.next ws 195 (length o)
         unfolding sizes_of message_in
-        ready_4 x = rw x (record {
+        ready_4 = record {
+          block = block_4 r.0;
           tag = omega arith;
           size = ap (λ (y : Sizes). y.next) r.1;
           fits = omega (arith, room_4, length-append (list_field 4 (list_in ws 195)) (flag_field (eqb (at ws 260) 1)));
-        })
+        }
 
-        module _ {xs4 : List ℕ} (x4 : xs4 ≡ list_in ws 195) {p : List ℕ} {e : ℕ} (y4 : Put o d (list_field 4 xs4) p e) where
-          j : Put o d (list_field 4 (list_in ws 195)) p e
-          j = rw x4 at y4
-
+        module _ {p : List ℕ} {e : ℕ} (j : Put o d (list_field 4 (list_in ws 195)) p e) where
           pub ready_5 : (at ws 260 ≤ 1) × (e + length (flag_field (eqb (at ws 260) 1)) ≤ length p)
           unfolding message_in
           ready_5 = (r.0.flag, put-room (omega (arith, put-length f, put-length g, put-length i)) (flag_field (eqb (at ws 260) 1)) room_4 j)
@@ -228,11 +220,6 @@ answer-refused ws old {n} e h = by (is_conf_state ws) (overlong (message_in ws))
     by true true e = (omega arith, refl)
     by true false e = absurd (h e)
     by false o e = (omega arith, refl)
-
-pub number-few : (d : Unwritten) → unwritten_number d ≤ 31
-number-few NoConfState = omega arith
-number-few LongList = omega arith
-number-few SmallOutput = omega arith
 
 number-some : (d : Unwritten) → unwritten_number d ≡ 0 → ⊥
 number-some NoConfState e = omega arith

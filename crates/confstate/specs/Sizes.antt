@@ -21,11 +21,12 @@ pub record Block (ws : List ℕ) (k : ℕ) : Type 0 where
   pub words : k + 65 ≤ length ws
   pub few : length (list_in ws k) ≤ 64
 
--- the list xs, whose numbers take `packed` bytes, fits as field f at place `p` of `room` bytes; the tag is one byte
-pub record Listable (f p packed : ℕ) (xs : List ℕ) (room : ℕ) : Type 0 where
+-- the list at k, whose numbers take `packed` bytes, fits as field f at place `p` of `room` bytes; the tag is one byte
+pub record Listable (f p packed : ℕ) (ws : List ℕ) (k room : ℕ) : Type 0 where
+  pub block : Block ws k
   pub tag : f < 16
-  pub size : packed ≡ length (packed_of xs)
-  pub fits : p + length (list_field f xs) ≤ room
+  pub size : packed ≡ length (packed_of (list_in ws k))
+  pub fits : p + length (list_field f (list_in ws k)) ≤ room
 
 -- how many bytes the numbers of each list take
 unfoldable pub sizes_of : ConfState → Sizes

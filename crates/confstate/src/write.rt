@@ -152,24 +152,32 @@ fn put_message(out: &mut [u8], s: Sizes, words: &[u64]) -> usize
     requires { Writable words.now × (s ≡ sizes_of (message_in words.now)) × (length (encoded (message_in words.now)) ≤ length out.old) }
     ensures { Put out.old 0 (encoded (message_in words.now)) out.new result }
 {
-    let a = put_list(out, 0, 1, s.voters, ids(words, VOTERS));
-    let b = put_list(out, a, 2, s.learners, ids(words, LEARNERS));
-    let c = put_list(out, b, 3, s.outgoing, ids(words, OUTGOING));
-    let d = put_list(out, c, 4, s.next, ids(words, NEXT));
+    let a = put_list(out, 0, 1, s.voters, words, VOTERS);
+    let b = put_list(out, a, 2, s.learners, words, LEARNERS);
+    let c = put_list(out, b, 3, s.outgoing, words, OUTGOING);
+    let d = put_list(out, c, 4, s.next, words, NEXT);
     put_flag(out, d, words[FLAG])
 }
 
-// The field of a list: its tag, the length, the numbers. An empty list has none.
-fn put_list(out: &mut [u8], at: usize, number: u8, packed: usize, ids: &[u64]) -> usize
-    requires { Listable number at packed ids.now (length out.old) }
-    ensures { Put out.old at (list_field number ids.now) out.new result }
+// The field of the list at word `start`: its tag, the length, the numbers. An empty list has none. It is not lent the ids: the count, were it read before the
+// bytes are put, would be kept in memory through the loop over them, which then takes a third longer.
+fn put_list(
+    out: &mut [u8],
+    at: usize,
+    number: u8,
+    packed: usize,
+    words: &[u64],
+    start: usize,
+) -> usize
+    requires { Listable number at packed words.now start (length out.old) }
+    ensures { Put out.old at (list_field number (list_in words.now start)) out.new result }
 {
     if packed == 0 {
         return at;
     }
     out[at] = 8 * number + LIST_TAG;
     let p = wire::put_varint(out, at + 1, packed as u64);
-    put_packed(out, p, ids)
+    put_packed(out, p, ids(words, start))
 }
 
 // The numbers one after the other.

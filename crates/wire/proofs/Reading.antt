@@ -170,9 +170,6 @@ module _ {l : List ℕ} {at value unit i : ℕ} (r : Reading l at value unit i) 
       let e : i ≡ 9 = omega (arith, r.few) in
       r.scale ∙ ap (λ (k : ℕ). 128 ^ k) e
 
-  pub nine_within : 9 ≤ i → (at + 9 ≤ length l) × (value < 2 ^ 63)
-  nine_within h = (omega (arith, r.within), omega (arith, r.small, unit_nine h))
-
   pub nine_then : {v : Result Varint Fault} → 9 ≤ i → v ≡ tenth_at l (at + 9) value → v ≡ read_at l at
   unfolding read_at tenth_at
   nine_then h e =

@@ -14,11 +14,14 @@ bounds-out-at c = omega (arith, listing-room c.requires c.if-packed-eq0.false)
 pub put_varint-p-requires : goal.put_varint-p-requires
 put_varint-p-requires c = listing-first c.requires c.if-packed-eq0.false c.args.out.now (omega arith) refl
 
+pub ids-requires : goal.ids-requires
+ids-requires c = c.requires.block
+
 pub put_packed-requires : goal.put_packed-requires
-put_packed-requires c = listing-next c.requires c.if-packed-eq0.false c.args.out.now (omega arith) refl c.put_varint-p.ensures
+put_packed-requires c = listing-next c.requires c.if-packed-eq0.false c.args.out.now (omega arith) refl c.put_varint-p.ensures c.ids.ensures
 
 pub shape_of-out : goal.shape_of-out
-shape_of-out c = put-length (listing-put c.requires c.if-packed-eq0.false c.args.out.now (omega arith) refl c.put_varint-p.ensures c.put_packed.ensures)
+shape_of-out c = put-length (listing-put c.requires c.if-packed-eq0.false c.args.out.now (omega arith) refl c.put_varint-p.ensures c.ids.ensures c.put_packed.ensures)
 
 pub returns : goal.returns
-returns c = listing-put c.requires c.if-packed-eq0.false c.args.out.now (omega arith) refl c.put_varint-p.ensures c.put_packed.ensures
+returns c = listing-put c.requires c.if-packed-eq0.false c.args.out.now (omega arith) refl c.put_varint-p.ensures c.ids.ensures c.put_packed.ensures
