@@ -1,5 +1,5 @@
--- Five functions are walked by hand. What the contracts of the three that take, lend or return a struct by reference say, written out, and that each is what
--- its clause in src/ says; of the other two, `is_tracked` and `applied`, the kit gives the reading itself (proofs/Settled.antt). Assumes nothing.
+-- What the contracts of the three functions say that take, lend or return a struct by reference, written out, and that each is what its clause in src/
+-- says. Assumes nothing.
 use mathlib.Core.Path.{◌≡◌, refl}
 use contract.Lifetimes.{Lfts}
 use contract.Monad.{fact}

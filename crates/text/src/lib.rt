@@ -2,38 +2,26 @@
 // place where it ends; the same functions count, on a short slice, and write, on the real one.
 #![tactic(auto)]
 
-ghost use Rattle.std.specs.Prelude.{[], ◌∷◌, ◌≡◌, ◌+◌, ◌-◌, min};
-ghost use Rattle.text.specs.Text.{decimal, each, spaced, words, group};
-ghost use Rattle.text.specs.Put.{Put, last};
+ghost use Rattle.std.specs.Prelude.{[], ◌∷◌, ◌≡◌};
+ghost use Rattle.text.specs.Text.{decimal, spaced, words, group};
+ghost use Rattle.text.specs.Put.{Put};
 
-// The place after `at`; the last place is its own.
-fn next(at: usize) -> usize
-    ensures { result ≡ min (at + 1) last }
-{
-    if at == 18446744073709551615 {
-        return at;
-    }
-    at + 1
-}
-
+// A byte. The place after `at` is the next; that after the last place is its own.
 pub fn put_byte(out: &mut [u8], at: usize, b: u8) -> usize
     ensures { Put out.old at (b ∷ []) out.new result }
 {
     if at < out.len() {
         out[at] = b;
-        return at + 1;
     }
-    next(at)
+    at.saturating_add(1)
 }
 
 pub fn put_bytes(out: &mut [u8], at: usize, s: &[u8]) -> usize
     ensures { Put out.old at s.now out.new result }
 {
     let mut p = at;
-    let mut i = 0;
-    while i < s.len() {
-        p = put_byte(out, p, s[i]);
-        i += 1;
+    for b in s {
+        p = put_byte(out, p, *b);
     }
     p
 }
@@ -43,10 +31,10 @@ pub fn put_decimal(out: &mut [u8], at: usize, n: u64) -> usize
     ensures { Put out.old at (decimal n) out.new result }
 {
     if n < 10 {
-        return put_byte(out, at, 48 + n as u8);
+        return put_byte(out, at, b'0' + n as u8);
     }
     let p = put_decimal(out, at, n / 10);
-    put_byte(out, p, 48 + (n % 10) as u8)
+    put_byte(out, p, b'0' + (n % 10) as u8)
 }
 
 // A space and the number.
@@ -57,27 +45,18 @@ fn put_spaced(out: &mut [u8], at: usize, n: u64) -> usize
     put_decimal(out, p, n)
 }
 
-fn put_all_spaced(out: &mut [u8], at: usize, xs: &[u64]) -> usize
-    ensures { Put out.old at (each spaced xs.now) out.new result }
-{
-    let mut p = at;
-    let mut i = 0;
-    while i < xs.len() {
-        p = put_spaced(out, p, xs[i]);
-        i += 1;
-    }
-    p
-}
-
 // The numbers with spaces between them.
 fn put_words(out: &mut [u8], at: usize, xs: &[u64]) -> usize
     ensures { Put out.old at (words xs.now) out.new result }
 {
-    if xs.len() == 0 {
+    let Some((first, rest)) = xs.split_first() else {
         return at;
+    };
+    let mut p = put_decimal(out, at, *first);
+    for x in rest {
+        p = put_spaced(out, p, *x);
     }
-    let p = put_decimal(out, at, xs[0]);
-    put_all_spaced(out, p, &xs[1..])
+    p
 }
 
 // The numbers in parentheses.
