@@ -3,8 +3,5 @@ use Rattle.unplug.specs.Words.{at}
 use Rattle.unplug.proofs.Within.{Asking}
 use Rattle.unplug.proofs.at_most.Given as goal
 
-abbrev pub invariant-loop-left : goal.invariant-loop-left
-invariant-loop-left l = Asking (at l.s) l.k l.n l.step l.most l.at l.left
-
-abbrev pub decreases-loop-left : goal.decreases-loop-left
-decreases-loop-left l = l.left
+abbrev pub invariant-loop-i : goal.invariant-loop-i
+invariant-loop-i l = Asking (at l.s) l.k l.n l.step l.most l.i

@@ -4,17 +4,20 @@ use borrow.Author.Rules.{rules}
 use Rattle.unplug.proofs.Within.{ask-start, ask-room, ask-stop, ask-next, ask-end}
 use Rattle.calls.proofs.read.at_most.Goals as goal
 
-pub loop-left-init : goal.loop-left-init
-loop-left-init c = search (rules, ask-start)
+pub loop-i-init : goal.loop-i-init
+loop-i-init c = ask-start
+
+pub overflow_mul-i : goal.overflow_mul-i
+overflow_mul-i c = let room = ask-room _ _ _ _ _ c.requires c.loop-i-test.true in omega arith
+
+pub overflow_add-k : goal.overflow_add-k
+overflow_add-k c = let room = ask-room _ _ _ _ _ c.requires c.loop-i-test.true in omega arith
 
 pub returns-then-most-word : goal.returns-then-most-word
 returns-then-most-word c = search (rules, ask-stop)
 
-pub overflow_add-at : goal.overflow_add-at
-overflow_add-at c = let room = ask-room c.loop-left.invariant c.loop-left-test.true in omega arith
-
-pub loop-left-preserved : goal.loop-left-preserved
-loop-left-preserved c = search (rules, ask-next)
+pub loop-i-preserved : goal.loop-i-preserved
+loop-i-preserved c = search (rules, ask-next)
 
 pub returns : goal.returns
 returns c = search (rules, ask-end)

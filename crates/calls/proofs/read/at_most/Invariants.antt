@@ -3,8 +3,5 @@ use Rattle.calls.specs.Layout.{word}
 use Rattle.unplug.proofs.Within.{Asking}
 use Rattle.calls.proofs.read.at_most.Given as goal
 
-abbrev pub invariant-loop-left : goal.invariant-loop-left
-invariant-loop-left l = Asking (word l.s) l.k l.n l.step l.most l.at l.left
-
-abbrev pub decreases-loop-left : goal.decreases-loop-left
-decreases-loop-left l = l.left
+abbrev pub invariant-loop-i : goal.invariant-loop-i
+invariant-loop-i l = Asking (word l.s) l.k l.n l.step l.most l.i
