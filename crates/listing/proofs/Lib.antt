@@ -1,6 +1,6 @@
 pub mod Cases
 pub mod Records
-pub mod Places
+pub mod Pieces
 pub mod Lines
 pub mod Pending
 pub mod Numbers

@@ -7,7 +7,9 @@ use native.Mathlib.Omega.{arith}
 use borrow.Author.Tests.{lt-ltb, le-ltb}
 use lib.ListN.{length}
 use Rattle.text.specs.Put.{Put, last}
-use Rattle.text.proofs.Laws.{Rest, rest_all, rest_put, rest-last, put_count, put_whole}
+use Rattle.text.specs.Writes.{Writes}
+use Rattle.text.specs.declared.Output.{Output}
+use Rattle.text.proofs.Laws.{put_count, put_whole}
 use Rattle.listing.specs.Script as script
 use Rattle.listing.specs.Script.{kind_at, number_at, stops, after}
 use Rattle.listing.specs.Lines.{stopped_line}
@@ -16,6 +18,7 @@ use Rattle.listing.specs.Sessions.{session_of, begin_in, after_in, shown_in}
 use Rattle.listing.specs.declared.Session.{Session}
 use Rattle.listing.proofs.Sessions.{Good, begin_good, begin-same, after_good, after_same, after-count, shown-same}
 use Rattle.listing.proofs.Sizes.{listing-size}
+use Rattle.listing.proofs.Pieces.{Left, left_all, left_put, left-last}
 
 -- ** From a record on: the next record, or the end
 
@@ -52,34 +55,34 @@ lines_all s =
 -- ** The loop
 
 -- what the records print from record k on is what is left to be put
-pub record Replaying (s old out : List ℕ) (z : Session) (p k : ℕ) : Type 0 where
+pub record Replaying (s : List ℕ) (old now : Output) (z : Session) (k : ℕ) : Type 0 where
   pub short : length s ≤ 65536
   pub within : k ≤ length s / 9
   pub good : Good z
   pub count : z.printed ≤ k
-  pub rest : Rest old 0 (listing s) out p (lines_from s k (session_of z))
+  pub left : Left old (listing s) now (lines_from s k (session_of z))
 
-pub replay-start : (s old : List ℕ) {z : Session} → length s ≤ 65536 → length old ≤ last → z ≡ begin_in → Replaying s old old z 0 0
-replay-start s old h k e =
+pub replay-start : (s : List ℕ) {o : Output} {z : Session} → length s ≤ 65536 → length o.bytes.now ≤ last → o.at ≤ last → z ≡ begin_in → Replaying s o o z 0
+replay-start s h k i e =
     rw e (record {
       short = h;
       within = omega arith;
       good = begin_good;
       count = omega arith;
-      rest = rw (begin-same, lines_all s) (rest_all k (omega arith));
+      left = rw (begin-same, lines_all s) (left_all k i);
     })
 
-module _ {s old out : List ℕ} {z : Session} {p k : ℕ} (l : Replaying s old out z p k) where
-  pub replay-end : {new : List ℕ} {q : ℕ} → k ≡ length s / 9 → Put out p (ending (9 * (length s / 9)) (length s) (session_of z)) new q → Put old 0 (listing s) new q
-  replay-end h f = rest-last (rw (h, lines_end s (session_of z)) at l.rest) f
+module _ {s : List ℕ} {old now next : Output} {z : Session} {k : ℕ} (l : Replaying s old now z k) where
+  pub replay-end : k ≡ length s / 9 → Writes now (ending (9 * (length s / 9)) (length s) (session_of z)) next → Writes old (listing s) next
+  replay-end h f = left-last (rw (h, lines_end s (session_of z)) at l.left) f
 
   module _ (h : k < length s / 9) {b : Bool} (e : b ≡ stops (session_of z) (kind_at s (9 * k))) where
-    pub replay-stop : {new : List ℕ} {q : ℕ} → b ≡ true → Put out p (stopped_line (9 * k)) new q → Put old 0 (listing s) new q
-    replay-stop t f = rest-last (rw (lines-stop s k (session_of z) h (sym e ∙ t)) at l.rest) f
+    pub replay-stop : b ≡ true → Writes now (stopped_line (9 * k)) next → Writes old (listing s) next
+    replay-stop t f = left-last (rw (lines-stop s k (session_of z) h (sym e ∙ t)) at l.left) f
 
-    pub replay-next : {new : List ℕ} {q n : ℕ} {next : Session} → b ≡ false → n ≡ number_at s (9 * k) → Put out p (shown_in z (kind_at s (9 * k))) new q → next ≡ after_in z (kind_at s (9 * k)) n
-        → Replaying s old new next q (k + 1)
-    replay-next {new} {q} {n} {next} t m f g =
+    pub replay-next : {n : ℕ} {y : Session} → b ≡ false → n ≡ number_at s (9 * k) → Writes now (shown_in z (kind_at s (9 * k))) next → y ≡ after_in z (kind_at s (9 * k)) n
+        → Replaying s old next y (k + 1)
+    replay-next {n} {y} t m f g =
         let at : ℕ = 9 * k in
         let goes : stops (session_of z) (kind_at s at) ≡ false = sym e ∙ t in
         let low : z.printed < last = omega (arith, l.count, l.short, h) in
@@ -88,7 +91,7 @@ module _ {s old out : List ℕ} {z : Session} {p k : ℕ} (l : Replaying s old o
           within = omega (arith, h);
           good = after_good z l.good (kind_at s at) (number_at s at) goes;
           count = omega (arith, l.count, after-count z (kind_at s at) (number_at s at));
-          rest = rw (after_same z l.good (kind_at s at) (number_at s at) goes low) (rest_put (rw (lines-go s k (session_of z) h goes) at l.rest) (rw (shown-same z l.good (kind_at s at) low) at f));
+          left = rw (after_same z l.good (kind_at s at) (number_at s at) goes low) (left_put (rw (lines-go s k (session_of z) h goes) at l.left) (rw (shown-same z l.good (kind_at s at) low) at f));
         })
 
 -- ** The entry: a script that is too long; a listing that does not fit; one that fits

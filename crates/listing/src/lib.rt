@@ -3,6 +3,7 @@
 
 ghost use Rattle.std.specs.Prelude.{◌≡◌, ◌<◌, ◌+◌, ◌≤◌, length, get_or, MatchOption};
 ghost use Rattle.text.specs.Put.{Put};
+ghost use Rattle.text.specs.Writes.{Writes};
 ghost use Rattle.listing.specs.Kinds.{byte_of, IsByteOf};
 ghost use Rattle.listing.specs.Script as script;
 ghost use Rattle.listing.specs.Lines.{stopped_line};
@@ -11,6 +12,7 @@ ghost use Rattle.listing.specs.Sessions.{session_of, begin_in, answer_in, pend_i
 
 use changer::{Answer, enter_joint, leave_joint, simple};
 use restore::apply_answer;
+use text::Output;
 use tracker::{Tracker, numbers};
 
 pub mod line; // the text of a line
@@ -61,6 +63,92 @@ pub struct Session {
     pub printed: u64,
 }
 
+impl Session {
+    // The beginning: the fresh state with `max_inflight` 256, nothing pending, nothing printed.
+    pub fn begin() -> Session
+        ensures { result ≡ begin_in }
+    {
+        Session {
+            tracker: Tracker::new(MAX_INFLIGHT),
+            ids: [0u64; changes::MAX_CHANGES],
+            kinds: [0u8; changes::MAX_CHANGES],
+            len: 0,
+            printed: 0,
+        }
+    }
+
+    // Whether a record of this kind ends the listing: an unknown kind, a 257th pending change, a leave with changes pending.
+    pub fn stops(&self, kind: u8) -> bool
+        ensures { result ≡ script.stops (session_of self.now) kind }
+    {
+        match Kind::of(kind) {
+            Some(Kind::Change) => changes::MAX_CHANGES <= self.len,
+            Some(Kind::Run(Run::Simple)) => false,
+            Some(Kind::Run(Run::Enter { .. })) => false,
+            Some(Kind::Run(Run::Leave)) => self.len != 0,
+            None => true,
+        }
+    }
+
+    // One record: a change is added to the pending list; a run kind prints its line, an accepted answer is applied, and the list is emptied.
+    pub fn turn(&mut self, to: &mut Output, kind: u8, number: u64)
+        ensures put { Writes to.old (shown_in self.old kind) to.new }
+        ensures after { self.new ≡ after_in self.old kind number }
+    {
+        let _at = to.at; // Read, so that it is known to be a number of 64 bits.
+        let run = match Kind::of(kind) {
+            Some(Kind::Run(run)) => run,
+            None => Run::Enter { auto_leave: false }, // the listing ended before
+            Some(Kind::Change) => {
+                self.pend(kind, number);
+                return;
+            }
+        };
+        let answer = self.answer_to(run);
+        self.apply(answer, number);
+        line::put_answer(to, self.printed, &answer);
+    }
+
+    // A change is added to the pending list; there is room, or the listing ended before.
+    #[inline(never)]
+    fn pend(&mut self, kind: u8, id: u64)
+        ensures { self.new ≡ pend_in self.old kind id }
+    {
+        let n = self.len;
+        if n < changes::MAX_CHANGES {
+            self.ids[n] = id;
+            self.kinds[n] = kind;
+            self.len = n + 1;
+        }
+    }
+
+    // What the pending list is answered.
+    #[inline(always)]
+    fn answer_to(&self, run: Run) -> Answer
+        ensures { result ≡ answer_in self.now (byte_of run) }
+    {
+        let n = self.len.min(changes::MAX_CHANGES);
+        let ids = &self.ids[..n];
+        let kinds = &self.kinds[..n];
+        match run {
+            Run::Simple => simple(self.tracker, ids, kinds),
+            Run::Enter { auto_leave } => enter_joint(self.tracker, auto_leave, ids, kinds),
+            Run::Leave => leave_joint(self.tracker),
+        }
+    }
+
+    // An accepted answer is applied; the pending list is emptied either way, and a line more is printed.
+    fn apply(&mut self, answer: Answer, next_idx: u64)
+        ensures { self.new ≡ applied_in self.old answer next_idx }
+    {
+        self.tracker = apply_answer(self.tracker, answer, next_idx).tracker;
+        self.ids.fill(0);
+        self.kinds.fill(0);
+        self.len = 0; // nothing is pending
+        self.printed = self.printed.saturating_add(1);
+    }
+}
+
 // The listing of a script goes to the front of `out`, every byte after it kept; its length comes back. 2^32 + 19 for a script over 65,536 bytes,
 // 2^32 + 20 for a listing longer than `out`, which is then as it was.
 pub fn dimecandle_replay(script: &[u8], out: &mut [u8]) -> u64
@@ -83,138 +171,41 @@ fn put_listing(script: &[u8], out: &mut [u8]) -> usize
     requires { length script.now ≤ 65536 }
     ensures { Put out.old 0 (listing script.now) out.new result }
 {
-    let mut z = begin();
-    let mut p = 0;
+    let mut to = Output::new(out);
+    let mut session = Session::begin();
     let records = script.len() / 9;
     for k in 0..records {
         let at = 9 * k;
         let kind = script[at];
-        if stops(z, kind) {
-            return put_stopped(out, p, at);
+        if session.stops(kind) {
+            put_stopped(&mut to, at);
+            return to.at;
         }
-        let t = turn(out, p, z, kind, number_at(script, at + 1));
-        p = t.at;
-        z = t.session;
+        session.turn(&mut to, kind, number_at(script, at + 1));
     }
-    put_ending(out, p, 9 * records, script.len(), z)
-}
-
-// The beginning: the fresh state with `max_inflight` 256, nothing pending, nothing printed.
-pub fn begin() -> Session
-    ensures { result ≡ begin_in }
-{
-    Session {
-        tracker: Tracker::new(MAX_INFLIGHT),
-        ids: [0u64; changes::MAX_CHANGES],
-        kinds: [0u8; changes::MAX_CHANGES],
-        len: 0,
-        printed: 0,
-    }
-}
-
-// Whether a record of this kind ends the listing: an unknown kind, a 257th pending change, a leave with changes pending.
-pub fn stops(z: Session, kind: u8) -> bool
-    ensures { result ≡ script.stops (session_of z) kind }
-{
-    match Kind::of(kind) {
-        Some(Kind::Change) => changes::MAX_CHANGES <= z.len,
-        Some(Kind::Run(Run::Simple)) => false,
-        Some(Kind::Run(Run::Enter { .. })) => false,
-        Some(Kind::Run(Run::Leave)) => z.len != 0,
-        None => true,
-    }
-}
-
-// Where the text ends after a record, and what is left to go on with.
-#[derive(Clone, Copy)]
-pub struct Turned {
-    pub at: usize,
-    pub session: Session,
-}
-
-// One record: a change is added to the pending list; a run kind prints its line, an accepted answer is applied, and the list is emptied.
-pub fn turn(out: &mut [u8], at: usize, z: Session, kind: u8, number: u64) -> Turned
-    ensures { Put out.old at (shown_in z kind) out.new result.at × (result.session ≡ after_in z kind number) }
-{
-    let run = match Kind::of(kind) {
-        Some(Kind::Run(run)) => run,
-        None => Run::Enter { auto_leave: false }, // the listing ended before
-        Some(Kind::Change) => {
-            let session = pend(z, kind, number);
-            return Turned { at, session };
-        }
-    };
-    let a = answer_to(z, run);
-    let session = applied(z, a, number);
-    let p = line::put_answer(out, at, session.printed, a);
-    Turned { at: p, session }
-}
-
-// A change is added to the pending list; there is room, or the listing ended before.
-#[inline(never)]
-fn pend(z: Session, kind: u8, id: u64) -> Session
-    ensures { result ≡ pend_in z kind id }
-{
-    let n = z.len;
-    if changes::MAX_CHANGES <= n {
-        return z;
-    }
-    let mut longer = z;
-    longer.ids[n] = id;
-    longer.kinds[n] = kind;
-    longer.len = n + 1;
-    longer
-}
-
-// What the pending list is answered.
-#[inline(always)]
-fn answer_to(z: Session, run: Run) -> Answer
-    ensures { result ≡ answer_in z (byte_of run) }
-{
-    let n = z.len.min(changes::MAX_CHANGES);
-    let ids = &z.ids[..n];
-    let kinds = &z.kinds[..n];
-    match run {
-        Run::Simple => simple(z.tracker, ids, kinds),
-        Run::Enter { auto_leave } => enter_joint(z.tracker, auto_leave, ids, kinds),
-        Run::Leave => leave_joint(z.tracker),
-    }
-}
-
-// An accepted answer is applied; the pending list is emptied either way, and a line more is printed.
-fn applied(z: Session, a: Answer, next_idx: u64) -> Session
-    ensures { result ≡ applied_in z a next_idx }
-{
-    let o = apply_answer(z.tracker, a, next_idx);
-    Session {
-        tracker: o.tracker,
-        ids: [0u64; changes::MAX_CHANGES],
-        kinds: [0u8; changes::MAX_CHANGES],
-        len: 0, // nothing is pending
-        printed: z.printed.saturating_add(1),
-    }
+    put_ending(&mut to, 9 * records, script.len(), &session);
+    to.at
 }
 
 // `stopped at byte K`.
-pub fn put_stopped(out: &mut [u8], at: usize, k: usize) -> usize
-    ensures { Put out.old at (stopped_line k) out.new result }
+pub fn put_stopped(to: &mut Output, k: usize)
+    ensures { Writes to.old (stopped_line k) to.new }
 {
-    let p = text::put_bytes(out, at, b"stopped at byte ");
-    let q = text::put_decimal(out, p, k as u64);
-    text::put_byte(out, q, b'\n')
+    to.put_bytes(b"stopped at byte ");
+    to.put_decimal(k as u64);
+    to.put_byte(b'\n');
 }
 
 // What is printed where no whole record is left: bytes are left from `k` on; changes are pending at `end`; neither.
-pub fn put_ending(out: &mut [u8], at: usize, k: usize, end: usize, z: Session) -> usize
-    ensures { Put out.old at (ending k end (session_of z)) out.new result }
+pub fn put_ending(to: &mut Output, k: usize, end: usize, session: &Session)
+    ensures { Writes to.old (ending k end (session_of session.now)) to.new }
 {
+    let _at = to.at; // Read, so that it is known to be a number of 64 bits.
     if k < end {
-        return put_stopped(out, at, k);
+        put_stopped(to, k);
+    } else if session.len != 0 {
+        put_stopped(to, end);
     }
-    if z.len == 0 {
-        return at;
-    }
-    put_stopped(out, at, end)
 }
 
 // The 8 bytes from `at` on as a number, the least significant first; a byte that is not there counts as 0.

@@ -1,125 +1,124 @@
 // The text of a line: document 01, "The replay script".
-ghost use Rattle.std.specs.Prelude.{cond, [], ◌≡◌, take, drop};
+ghost use Rattle.std.specs.Prelude.{cond, [], ◌≡◌, take};
 ghost use Rattle.idset.specs.Set.{held};
-ghost use Rattle.tracker.specs.Bridge.{conf_of, entry_of, entries_of, log_of};
-ghost use Rattle.text.specs.Put.{Put};
-ghost use Rattle.text.specs.Text.{each, group, ascii};
+ghost use Rattle.tracker.specs.Bridge.{conf_of, entry_of, log_of};
+ghost use Rattle.text.specs.Text.{group, ascii};
+ghost use Rattle.text.specs.Writes.{Writes};
 ghost use Rattle.listing.specs.Lines.{labelled, conf_text, entry_text, spaced_entry, log_text, ok_line, refused_line};
 ghost use Rattle.listing.specs.Sessions.{answer_text, sign_of};
 
 use changer::Answer;
 use idset::IdSet;
+use text::Output;
 use tracker::{ChangeLog, Configuration, MapChange, MapChangeType};
 
 // An accepted answer's line, or a refusal's.
 #[inline(never)]
-pub fn put_answer(out: &mut [u8], at: usize, k: u64, a: Answer) -> usize
-    ensures { Put out.old at (answer_text k a) out.new result }
+pub fn put_answer(to: &mut Output, k: u64, answer: &Answer)
+    ensures { Writes to.old (answer_text k answer.now) to.new }
 {
-    if a.number == 0 {
-        return put_ok(out, at, k, a.conf, a.log);
+    if answer.number == 0 {
+        put_ok(to, k, &answer.conf, &answer.log);
+    } else {
+        put_refused(to, k, answer.number, answer.id);
     }
-    put_refused(out, at, k, a.number, a.id)
 }
 
-fn put_ok(out: &mut [u8], at: usize, k: u64, conf: Configuration, log: ChangeLog) -> usize
-    ensures { Put out.old at (ok_line k (conf_of conf) (log_of log)) out.new result }
+fn put_ok(to: &mut Output, k: u64, conf: &Configuration, log: &ChangeLog)
+    ensures { Writes to.old (ok_line k (conf_of conf.now) (log_of log.now)) to.new }
 {
-    let a = text::put_decimal(out, at, k);
-    let b = text::put_bytes(out, a, b" ok");
-    let c = put_conf(out, b, conf);
-    let d = text::put_bytes(out, c, b" log=");
-    let e = put_log(out, d, log);
-    text::put_byte(out, e, b'\n')
+    to.put_decimal(k);
+    to.put_bytes(b" ok");
+    put_conf(to, conf);
+    to.put_bytes(b" log=");
+    put_log(to, log);
+    to.put_byte(b'\n');
 }
 
-fn put_refused(out: &mut [u8], at: usize, k: u64, number: u64, id: u64) -> usize
-    ensures { Put out.old at (refused_line k number id) out.new result }
+fn put_refused(to: &mut Output, k: u64, number: u64, id: u64)
+    ensures { Writes to.old (refused_line k number id) to.new }
 {
-    let a = text::put_decimal(out, at, k);
-    let b = text::put_bytes(out, a, b" refused ");
-    let c = text::put_decimal(out, b, number);
-    let d = text::put_bytes(out, c, b" id ");
-    let e = text::put_decimal(out, d, id);
-    text::put_byte(out, e, b'\n')
+    to.put_decimal(k);
+    to.put_bytes(b" refused ");
+    to.put_decimal(number);
+    to.put_bytes(b" id ");
+    to.put_decimal(id);
+    to.put_byte(b'\n');
 }
 
 // Voters, learners, learners_next, autoleave.
-fn put_conf(out: &mut [u8], at: usize, conf: Configuration) -> usize
-    ensures { Put out.old at (conf_text (conf_of conf)) out.new result }
+fn put_conf(to: &mut Output, conf: &Configuration)
+    ensures { Writes to.old (conf_text (conf_of conf.now)) to.new }
 {
-    let a = text::put_bytes(out, at, b" voters=");
-    let b = put_set(out, a, conf.incoming);
-    let c = put_labelled(out, b, b"&&", conf.outgoing);
-    let d = put_labelled(out, c, b" learners=", conf.learners);
-    let e = put_labelled(out, d, b" learners_next=", conf.learners_next);
-    put_auto(out, e, conf.auto_leave)
+    to.put_bytes(b" voters=");
+    put_set(to, &conf.incoming);
+    put_labelled(to, b"&&", &conf.outgoing);
+    put_labelled(to, b" learners=", &conf.learners);
+    put_labelled(to, b" learners_next=", &conf.learners_next);
+    put_auto(to, conf.auto_leave);
 }
 
-fn put_set(out: &mut [u8], at: usize, set: IdSet) -> usize
-    ensures { Put out.old at (group (held set)) out.new result }
+fn put_set(to: &mut Output, set: &IdSet)
+    ensures { Writes to.old (group (held set.now)) to.new }
 {
     let n = set.len.min(IdSet::CAPACITY);
-    text::put_group(out, at, &set.ids[..n])
+    to.put_group(&set.ids[..n]);
 }
 
 // A set that is not empty, after its label.
-fn put_labelled(out: &mut [u8], at: usize, label: &[u8], set: IdSet) -> usize
-    ensures { Put out.old at (labelled label.now (held set)) out.new result }
+fn put_labelled(to: &mut Output, label: &[u8], set: &IdSet)
+    ensures { Writes to.old (labelled label.now (held set.now)) to.new }
 {
-    if set.is_empty() {
-        return at;
+    let _at = to.at; // Read, so that it is known to be a number of 64 bits.
+    if !set.is_empty() {
+        to.put_bytes(label);
+        put_set(to, set);
     }
-    let p = text::put_bytes(out, at, label);
-    put_set(out, p, set)
 }
 
-fn put_auto(out: &mut [u8], at: usize, auto: bool) -> usize
-    ensures { Put out.old at (cond auto (ascii " autoleave") []) out.new result }
+fn put_auto(to: &mut Output, auto: bool)
+    ensures { Writes to.old (cond auto (ascii " autoleave") []) to.new }
 {
-    if auto {
-        return text::put_bytes(out, at, b" autoleave");
-    }
-    at
+    let text: &[u8] = if auto { b" autoleave" } else { b"" };
+    to.put_bytes(text);
 }
 
 // The entries with spaces between them, in parentheses.
-fn put_log(out: &mut [u8], at: usize, log: ChangeLog) -> usize
-    ensures { Put out.old at (log_text (log_of log)) out.new result }
+fn put_log(to: &mut Output, log: &ChangeLog)
+    ensures { Writes to.old (log_text (log_of log.now)) to.new }
 {
-    let p = text::put_byte(out, at, b'(');
-    if log.count == 0 {
-        return text::put_byte(out, p, b')');
+    to.put_byte(b'(');
+    if let Some((first, rest)) = entries(log).split_first() {
+        put_entry(to, first);
+        for e in rest {
+            put_spaced(to, e);
+        }
     }
-    let q = put_entry(out, p, log.entries[0]);
-    let r = put_more(out, q, log);
-    text::put_byte(out, r, b')')
+    to.put_byte(b')');
 }
 
-// The entries from the second on.
-fn put_more(out: &mut [u8], at: usize, log: ChangeLog) -> usize
-    ensures { Put out.old at (each spaced_entry (entries_of (drop 1 (take log.count log.entries)))) out.new result }
+// The entries of a log: the first `count`, or all.
+fn entries(log: &ChangeLog) -> &[MapChange]
+    ensures { result.now ≡ take log.now.count log.now.entries }
 {
-    let mut p = at;
-    for i in 1..log.count.min(ChangeLog::CAPACITY) {
-        p = put_spaced(out, p, log.entries[i]);
-    }
-    p
+    let entries: &[MapChange] = &log.entries;
+    &entries[..log.count.min(entries.len())]
 }
 
-fn put_spaced(out: &mut [u8], at: usize, e: MapChange) -> usize
-    ensures { Put out.old at (spaced_entry (entry_of e)) out.new result }
+// A space and the entry.
+fn put_spaced(to: &mut Output, e: &MapChange)
+    ensures { Writes to.old (spaced_entry (entry_of e.now)) to.new }
 {
-    let p = text::put_byte(out, at, b' ');
-    put_entry(out, p, e)
+    to.put_byte(b' ');
+    put_entry(to, e);
 }
 
 // `+5`, or `-5`.
-fn put_entry(out: &mut [u8], at: usize, e: MapChange) -> usize
-    ensures { Put out.old at (entry_text (entry_of e)) out.new result }
+fn put_entry(to: &mut Output, e: &MapChange)
+    ensures { Writes to.old (entry_text (entry_of e.now)) to.new }
 {
-    let p = text::put_byte(out, at, sign(e.kind));
-    text::put_decimal(out, p, e.id)
+    to.put_byte(sign(e.kind));
+    to.put_decimal(e.id);
 }
 
 fn sign(kind: MapChangeType) -> u8

@@ -3,4 +3,4 @@ use Rattle.listing.proofs.Replay.{Replaying}
 use Rattle.listing.proofs.put_listing.Given as goal
 
 abbrev pub invariant-loop-k : goal.invariant-loop-k
-invariant-loop-k l = Replaying l.script l.initial.out l.out l.z l.p l.k
+invariant-loop-k l = Replaying l.script l.initial.to l.to l.session l.k

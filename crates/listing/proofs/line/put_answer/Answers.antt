@@ -3,10 +3,10 @@ use borrow.Author.Tests.{eq-eqb, ne_eqb}
 use Rattle.listing.specs.Sessions.{answer_text}
 use Rattle.listing.proofs.line.put_answer.Goals as goal
 
-pub returns-then-a-eq0 : goal.returns-then-a-eq0
+pub returns-then-answer-eq0 : goal.returns-then-answer-eq0
 unfolding answer_text
-returns-then-a-eq0 c = simp (eq-eqb _ _ c.if-a-eq0.true) c.put_ok.ensures
+returns-then-answer-eq0 c = simp (eq-eqb _ _ c.if-answer-eq0.true) c.put_ok.ensures
 
-pub returns : goal.returns
+pub returns-else-answer-eq0 : goal.returns-else-answer-eq0
 unfolding answer_text
-returns c = simp (ne_eqb _ _ c.if-a-eq0.false) c.put_refused.ensures
+returns-else-answer-eq0 c = simp (ne_eqb _ _ c.if-answer-eq0.false) c.put_refused.ensures

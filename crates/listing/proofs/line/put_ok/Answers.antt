@@ -1,12 +1,9 @@
 -- `listing::line::put_ok` meets its contract: its pieces, one after the other. Assumes nothing.
 use native.Mathlib.Omega.{arith}
-use Rattle.text.proofs.Laws.{rest_all, rest_put, rest-last, put-length}
 use Rattle.listing.specs.Lines.{ok_line}
+use Rattle.listing.proofs.Pieces.{then}
 use Rattle.listing.proofs.line.put_ok.Goals as goal
 
 pub returns : goal.returns
 unfolding ok_line
-returns c = rest-last (rest_put (rest_put (rest_put (rest_put (rest_put (rest_all (omega (arith, c.well_formed, c.ranges)) (omega (arith, c.well_formed, c.ranges))) c.put_decimal-a.ensures) c.put_bytes-b.ensures) c.put_conf-c.ensures) c.put_bytes-d.ensures) c.put_log-e.ensures) c.put_byte.ensures
-
-pub shape_of-out : goal.shape_of-out
-shape_of-out c = put-length (returns c)
+returns c = then (omega arith) c.put_decimal.ensures (λ h. then h c.put_bytes.ensures (λ h. then h c.put_conf.ensures (λ h. then h c.put_bytes-2.ensures (λ h. then h c.put_log.ensures (λ h. c.put_byte.ensures)))))

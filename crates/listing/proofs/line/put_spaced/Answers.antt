@@ -1,7 +1,7 @@
 -- `listing::line::put_spaced` meets its contract. Assumes nothing.
 use native.Mathlib.Omega.{arith}
-use Rattle.text.proofs.Laws.{put_then}
+use Rattle.text.proofs.Outputs.{writes_then}
 use Rattle.listing.proofs.line.put_spaced.Goals as goal
 
 pub returns : goal.returns
-returns c = put_then (omega arith) c.put_byte-p.ensures c.put_entry.ensures
+returns c = writes_then (omega arith) c.put_byte.ensures c.put_entry.ensures
