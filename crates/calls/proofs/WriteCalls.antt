@@ -7,7 +7,9 @@ use native.Mathlib.Omega.{arith, min_cases}
 use borrow.Author.Tests.{eq-eqb, ne_eqb, lt-ltb, le-ltb}
 use lib.ListN.{length, take, drop}
 use lib.Seq.{take_all}
-use Rattle.text.specs.Put.{Put, last}
+use Rattle.text.specs.Put.{last}
+use Rattle.text.specs.Writes.{Writes}
+use Rattle.text.specs.declared.Output.{Output}
 use Rattle.text.proofs.Laws.{put_whole}
 use Rattle.unplug.specs.Words.{words_by}
 use Rattle.calls.specs.Layout.{word, words, kinds_at, change_list_at, holds}
@@ -120,8 +122,10 @@ module _ (s out : List ℕ) where
   unfolding call_leaves
   call-unanswered w e = (sym e, rw (e, ne_eqb (refusal_number w) 0 (refusal_positive w)))
 
-  pub call-done : call_answer s (length out) ≡ 0 → length out ≤ last → (r : Reply) → TypedReply r → r ≡ reply_to s → {new : List ℕ} {n : ℕ} → Put out 0 (all_bytes (reply_words r)) new n → 13960 ≤ length out → Says 0 new
+  pub call-done : call_answer s (length out) ≡ 0 → length out ≤ last → (r : Reply) → TypedReply r → r ≡ reply_to s
+      → {o p : Output} → o.bytes.now ≡ out → o.at ≡ 0 → Writes o (all_bytes (reply_words r)) p → {new : List ℕ} → new ≡ p.bytes.now → 13960 ≤ length out → Says 0 new
   unfolding call_leaves
-  call-done a m r z q f room =
+  call-done a m r z q b e f k room =
+      let put = rw (b, e, ← k) at f.put in
       let long : length (all_bytes (reply_words r)) ≡ 13960 = reply-length z in
-      (sym a, rw a ((put_whole m f (omega arith)).0 ∙ (ap (λ (n : ℕ). all_bytes (reply_words r) ++ drop n out) long ∙ ap (λ (x : Reply). all_bytes (reply_words x) ++ drop 13960 out) q)))
+      (sym a, rw a ((put_whole m put (omega arith)).0 ∙ (ap (λ (n : ℕ). all_bytes (reply_words r) ++ drop n out) long ∙ ap (λ (x : Reply). all_bytes (reply_words x) ++ drop 13960 out) q)))

@@ -1,5 +1,5 @@
--- Words that are put into a slice one after the other. Assumes nothing.
-use Prim.Native.Nat.{ℕ}
+-- Words that are put into an output one after the other. Assumes nothing.
+use Prim.Native.Nat.{ℕ, ◌≤◌}
 use mathlib.Core.Path.{◌≡◌, refl, ap, sym, ◌∙◌}
 use mathlib.Core.List.{List, [], ◌∷◌, ◌++◌, append_assoc, append-nil}
 use Rattle.progress.specs.declared.Progress.{Progress}
@@ -11,9 +11,19 @@ use Rattle.tracker.specs.declared.ConfState.{ConfState}
 use Rattle.text.specs.Text.{each}
 use Rattle.std.specs.Int.{w64, to_le_bytes}
 use native.Mathlib.Nat.{div-div-eq-div-mul}
+use native.Mathlib.Omega.{arith}
+use lib.ListN.{length}
+use Rattle.text.specs.Put.{last}
+use Rattle.text.specs.Writes.{Writes}
+use Rattle.text.specs.declared.Output.{Output}
+use Rattle.text.proofs.Outputs.{writes_then, writes_length}
 use Rattle.calls.specs.declared.Reply.{Reply}
 use Rattle.calls.specs.Reply.{bytes, word_bytes, all_bytes, flag_word, set_words, list_words, conf_words, record_words, records_words, state_words, kind_word, entries_words, log_words, conf_state_words}
 use Rattle.calls.specs.Call.{reply_words}
+
+-- a text, and one that is put into what it leaves
+pub piece_then : {o p q : Output} {x y : List ℕ} → length o.bytes.now ≤ last → Writes o x p → (length p.bytes.now ≤ last → Writes p y q) → Writes o (x ++ y) q
+piece_then h f k = writes_then h f (k (omega (arith, writes_length f)))
 
 -- ** One word
 

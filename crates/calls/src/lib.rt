@@ -16,6 +16,7 @@ ghost use Rattle.calls.specs.Unplugs.{Unplugs, unplug_answer, unplug_leaves};
 use crate::asked::{Call, Unanswered};
 use crate::places::{AUTO_LEAVE, CALL, NEXT_IDX, REPLY, REQUEST};
 use changer::Answer;
+use text::Output;
 use tracker::apply::applied;
 use tracker::{ChangeLog, ConfState, Outcome, Tracker, Verdict};
 
@@ -43,7 +44,8 @@ pub fn dimecandle_call(request: &[u8], reply: &mut [u8]) -> u64
 {
     match call_in(request, reply.len()) {
         Ok(call) => {
-            write::put_reply(reply, reply_to(request, call));
+            let mut to = Output::new(reply);
+            write::put_reply(&mut to, reply_to(request, call));
             0
         }
         Err(why) => why.number(),

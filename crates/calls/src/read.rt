@@ -1,13 +1,13 @@
 // A request, read off its bytes: docs/EMBEDDING.md. Places are counted in words.
 ghost use Rattle.std.specs.Prelude.{◌≡◌, ◌+◌, ◌*◌, ◌≤◌, length, min, take};
 ghost use Rattle.unplug.specs.Words.{state_named};
-ghost use Rattle.calls.specs.Layout.{number, word as word_at, words as words_at, kind_named, set_at, list_at, conf_at, record_at, records_at, state_at, entries_at, log_at, conf_state_at, kinds_at, change_list_at, within, state_holds, list_holds, holds as holds_in};
+ghost use Rattle.calls.specs.Layout.{number, word as word_at, words as words_at, kind_named, set_at, list_at, conf_at, record_at, records_at, state_at, entries_at, log_at, conf_state_at, kinds_at, change_list_at, state_holds, list_holds, holds as holds_in};
 
 use crate::places::{AUTO_LEAVE, CONF, CONF_STATE, LIST, LOG, NEXT_IDX, STATE};
 use idset::IdSet;
 use progress::{Progress, ProgressState};
 use tracker::{ChangeLog, ConfState, Configuration, IdList, MapChange, MapChangeType, Tracker};
-use unplug::layout;
+use unplug::{at_most, layout};
 
 // The LIST: ids and kinds, and how many of each.
 #[derive(Clone, Copy)]
@@ -52,11 +52,11 @@ pub fn holds(s: &[u8]) -> bool
     ensures { result ≡ holds_in s.now }
 {
     state_holds(s, STATE)
-        && at_most(s, AUTO_LEAVE, 1, 1, 1)
+        && at_most(|k| word(s, k), AUTO_LEAVE, 1, 1, 1)
         && list_holds(s, LIST)
-        && at_most(s, CONF + layout::AUTO_LEAVE, 1, 1, 1)
-        && at_most(s, LOG + 1, ChangeLog::CAPACITY, 2, 1)
-        && at_most(s, CONF_STATE + layout::AUTO_LEAVE, 1, 1, 1)
+        && at_most(|k| word(s, k), CONF + layout::AUTO_LEAVE, 1, 1, 1)
+        && at_most(|k| word(s, k), LOG + 1, ChangeLog::CAPACITY, 2, 1)
+        && at_most(|k| word(s, k), CONF_STATE + layout::AUTO_LEAVE, 1, 1, 1)
 }
 
 // The STATE of a request.
@@ -126,42 +126,29 @@ fn number_at(s: &[u8], at: usize) -> u64
     u64::from_le_bytes(bytes)
 }
 
-// Whether `n` words from `k` on, `step` apart, are at most `most`.
-fn at_most(s: &[u8], k: usize, n: usize, step: usize, most: u64) -> bool
-    requires { k + n * step ≤ 4096 }
-    ensures { result ≡ within n most step s.now k }
-{
-    for i in 0..n {
-        if most < word(s, k + i * step) {
-            return false;
-        }
-    }
-    true
-}
-
 // The flag of the CONF, and of each RECORD its state and its two flags.
 fn state_holds(s: &[u8], k: usize) -> bool
     requires { k ≤ 2048 }
     ensures { result ≡ state_holds s.now k }
 {
     let records = k + layout::RECORDS;
-    at_most(s, k + layout::AUTO_LEAVE, 1, 1, 1)
+    at_most(|k| word(s, k), k + layout::AUTO_LEAVE, 1, 1, 1)
         && at_most(
-            s,
+            |k| word(s, k),
             records + layout::RECORD_STATE,
             Tracker::CAPACITY,
             layout::RECORD,
             2,
         )
         && at_most(
-            s,
+            |k| word(s, k),
             records + layout::PAUSED,
             Tracker::CAPACITY,
             layout::RECORD,
             1,
         )
         && at_most(
-            s,
+            |k| word(s, k),
             records + layout::RECENT_ACTIVE,
             Tracker::CAPACITY,
             layout::RECORD,
@@ -176,9 +163,15 @@ fn list_holds(s: &[u8], k: usize) -> bool
 {
     let most = ChangeList::CAPACITY as u64;
     let kinds = k + ChangeList::CAPACITY + 1;
-    at_most(s, k + ChangeList::CAPACITY, 1, 1, most)
-        && at_most(s, kinds, ChangeList::CAPACITY, 1, u64::from(u8::MAX))
-        && at_most(s, kinds + ChangeList::CAPACITY, 1, 1, most)
+    at_most(|k| word(s, k), k + ChangeList::CAPACITY, 1, 1, most)
+        && at_most(
+            |k| word(s, k),
+            kinds,
+            ChangeList::CAPACITY,
+            1,
+            u64::from(u8::MAX),
+        )
+        && at_most(|k| word(s, k), kinds + ChangeList::CAPACITY, 1, 1, most)
 }
 
 // A CONF.

@@ -1,90 +1,90 @@
 // A reply, written as bytes: docs/EMBEDDING.md.
-ghost use Rattle.std.specs.Prelude.{◌≡◌, [], ◌∷◌, ◌++◌};
-ghost use Rattle.text.specs.Put.{Put};
-ghost use Rattle.calls.specs.Reply.{word_bytes, all_bytes, flag_word, set_words, list_words, conf_words, state_word, record_words, records_words, state_words, kind_word, entries_words, log_words, conf_state_words};
+ghost use Rattle.std.specs.Prelude.{ℕ, List, ◌≡◌, [], ◌∷◌, ◌++◌};
+ghost use Rattle.text.specs.Text.{each};
+ghost use Rattle.text.specs.Writes.{Writes};
+ghost use Rattle.calls.specs.Reply.{word_bytes, all_bytes, flag_word, set_words, list_words, conf_words, state_word, record_words, state_words, kind_word, entries_words, log_words, conf_state_words};
 ghost use Rattle.calls.specs.Call.{reply_words};
 
 use crate::Reply;
 use progress::{Progress, ProgressState};
+use text::Output;
 use tracker::{ChangeLog, ConfState, Configuration, MapChange, MapChangeType, Tracker};
 
-// The whole reply from the front of `out` on, as far as it goes.
-pub fn put_reply(out: &mut [u8], r: Reply) -> usize
-    ensures { Put out.old 0 (all_bytes (reply_words r)) out.new result }
+// The whole reply, as far as the output goes.
+pub fn put_reply(to: &mut Output, r: Reply)
+    ensures { Writes to.old (all_bytes (reply_words r)) to.new }
 {
-    let a = put_word(out, 0, r.number);
-    let b = put_word(out, a, r.id);
-    let c = put_flag(out, b, r.yes);
-    let d = put_state(out, c, r.tracker);
-    let e = put_log(out, d, r.log);
-    let f = put_conf_state(out, e, r.conf_state);
-    put_word(out, f, r.idle as u64)
+    put_word(to, r.number);
+    put_word(to, r.id);
+    put_flag(to, r.yes);
+    put_state(to, r.tracker);
+    put_log(to, r.log);
+    put_conf_state(to, r.conf_state);
+    put_word(to, r.idle as u64);
 }
 
 // 8 bytes, the least significant first.
-fn put_word(out: &mut [u8], at: usize, n: u64) -> usize
-    ensures { Put out.old at (word_bytes n) out.new result }
+fn put_word(to: &mut Output, n: u64)
+    ensures { Writes to.old (word_bytes n) to.new }
 {
-    text::put_bytes(out, at, &n.to_le_bytes())
+    to.put_bytes(&n.to_le_bytes());
 }
 
-fn put_flag(out: &mut [u8], at: usize, b: bool) -> usize
-    ensures { Put out.old at (word_bytes (flag_word b)) out.new result }
+fn put_flag(to: &mut Output, b: bool)
+    ensures { Writes to.old (word_bytes (flag_word b)) to.new }
 {
-    put_word(out, at, u64::from(b))
+    put_word(to, u64::from(b));
+}
+
+// The items one after the other.
+fn put_each<'a, T: Copy, F: Fn(&mut Output<'a>, T)>(to: &mut Output<'a>, items: &[T], put: F)
+    requires { F.IsAlwaysCallable put }
+    ensures { (f : T → List ℕ) → ((p : _) (x : T) (q : _) → F.post put p x tt q → Writes p.now (f x) q.now) → Writes to.old (each f items.now) to.new }
+{
+    // Read, so that it is known that the place is a usize.
+    let _at = to.at;
+    for item in items {
+        put(to, *item);
+    }
 }
 
 // Words one after the other.
-fn put_words(out: &mut [u8], at: usize, ws: &[u64]) -> usize
-    ensures { Put out.old at (all_bytes ws.now) out.new result }
+fn put_words(to: &mut Output, ws: &[u64])
+    ensures { Writes to.old (all_bytes ws.now) to.new }
 {
-    let mut p = at;
-    for w in ws {
-        p = put_word(out, p, *w);
-    }
-    p
+    put_each(to, ws, put_word);
 }
 
 // Ids, and how many of them count: a SET or a list.
-fn put_ids(out: &mut [u8], at: usize, ids: &[u64], len: usize) -> usize
-    ensures { Put out.old at (all_bytes (ids.now ++ (len ∷ []))) out.new result }
+fn put_ids(to: &mut Output, ids: &[u64], len: usize)
+    ensures { Writes to.old (all_bytes (ids.now ++ (len ∷ []))) to.new }
 {
-    let p = put_words(out, at, ids);
-    put_word(out, p, len as u64)
+    put_words(to, ids);
+    put_word(to, len as u64);
 }
 
-fn put_conf(out: &mut [u8], at: usize, conf: Configuration) -> usize
-    ensures { Put out.old at (all_bytes (conf_words conf)) out.new result }
+fn put_conf(to: &mut Output, conf: Configuration)
+    ensures { Writes to.old (all_bytes (conf_words conf)) to.new }
 {
-    let a = put_ids(out, at, &conf.incoming.ids, conf.incoming.len);
-    let b = put_ids(out, a, &conf.outgoing.ids, conf.outgoing.len);
-    let c = put_ids(out, b, &conf.learners.ids, conf.learners.len);
-    let d = put_ids(out, c, &conf.learners_next.ids, conf.learners_next.len);
-    put_flag(out, d, conf.auto_leave)
+    put_ids(to, &conf.incoming.ids, conf.incoming.len);
+    put_ids(to, &conf.outgoing.ids, conf.outgoing.len);
+    put_ids(to, &conf.learners.ids, conf.learners.len);
+    put_ids(to, &conf.learners_next.ids, conf.learners_next.len);
+    put_flag(to, conf.auto_leave);
 }
 
-fn put_state(out: &mut [u8], at: usize, t: Tracker) -> usize
-    ensures { Put out.old at (all_bytes (state_words t)) out.new result }
+fn put_state(to: &mut Output, t: Tracker)
+    ensures { Writes to.old (all_bytes (state_words t)) to.new }
 {
-    let a = put_conf(out, at, t.conf);
-    let b = put_ids(out, a, &t.ids.ids, t.ids.len);
-    let c = put_records(out, b, &t.records);
-    put_word(out, c, t.max_inflight)
-}
-
-fn put_records(out: &mut [u8], at: usize, records: &[Progress]) -> usize
-    ensures { Put out.old at (all_bytes (records_words records.now)) out.new result }
-{
-    let mut p = at;
-    for r in records {
-        p = put_record(out, p, *r);
-    }
-    p
+    put_conf(to, t.conf);
+    put_ids(to, &t.ids.ids, t.ids.len);
+    put_each(to, &t.records, put_record);
+    put_word(to, t.max_inflight);
 }
 
 #[tactic(auto, unfolding(crate::specs::Reply::record_words))]
-fn put_record(out: &mut [u8], at: usize, p: Progress) -> usize
-    ensures { Put out.old at (all_bytes (record_words p)) out.new result }
+fn put_record(to: &mut Output, p: Progress)
+    ensures { Writes to.old (all_bytes (record_words p)) to.new }
 {
     let words = [
         p.matched,
@@ -98,7 +98,7 @@ fn put_record(out: &mut [u8], at: usize, p: Progress) -> usize
         p.commit_group_id,
         p.committed_index,
     ];
-    put_words(out, at, &words)
+    put_words(to, &words);
 }
 
 // 0 Probe, 1 Replicate, 2 Snapshot.
@@ -112,28 +112,18 @@ fn state_word(s: ProgressState) -> u64
     }
 }
 
-fn put_log(out: &mut [u8], at: usize, log: ChangeLog) -> usize
-    ensures { Put out.old at (all_bytes (log_words log)) out.new result }
+fn put_log(to: &mut Output, log: ChangeLog)
+    ensures { Writes to.old (all_bytes (log_words log)) to.new }
 {
-    let p = put_entries(out, at, &log.entries);
-    put_word(out, p, log.count as u64)
-}
-
-fn put_entries(out: &mut [u8], at: usize, entries: &[MapChange]) -> usize
-    ensures { Put out.old at (all_bytes (entries_words entries.now)) out.new result }
-{
-    let mut p = at;
-    for e in entries {
-        p = put_entry(out, p, *e);
-    }
-    p
+    put_each(to, &log.entries, put_entry);
+    put_word(to, log.count as u64);
 }
 
 #[tactic(auto, unfolding(crate::specs::Reply::entries_words))]
-fn put_entry(out: &mut [u8], at: usize, e: MapChange) -> usize
-    ensures { Put out.old at (all_bytes (entries_words (e ∷ []))) out.new result }
+fn put_entry(to: &mut Output, e: MapChange)
+    ensures { Writes to.old (all_bytes (entries_words (e ∷ []))) to.new }
 {
-    put_words(out, at, &[e.id, kind_word(e.kind)])
+    put_words(to, &[e.id, kind_word(e.kind)]);
 }
 
 // 0 Add, 1 Remove.
@@ -146,12 +136,12 @@ fn kind_word(k: MapChangeType) -> u64
     }
 }
 
-fn put_conf_state(out: &mut [u8], at: usize, cs: ConfState) -> usize
-    ensures { Put out.old at (all_bytes (conf_state_words cs)) out.new result }
+fn put_conf_state(to: &mut Output, cs: ConfState)
+    ensures { Writes to.old (all_bytes (conf_state_words cs)) to.new }
 {
-    let a = put_ids(out, at, &cs.voters.ids, cs.voters.len);
-    let b = put_ids(out, a, &cs.learners.ids, cs.learners.len);
-    let c = put_ids(out, b, &cs.voters_outgoing.ids, cs.voters_outgoing.len);
-    let d = put_ids(out, c, &cs.learners_next.ids, cs.learners_next.len);
-    put_flag(out, d, cs.auto_leave)
+    put_ids(to, &cs.voters.ids, cs.voters.len);
+    put_ids(to, &cs.learners.ids, cs.learners.len);
+    put_ids(to, &cs.voters_outgoing.ids, cs.voters_outgoing.len);
+    put_ids(to, &cs.learners_next.ids, cs.learners_next.len);
+    put_flag(to, cs.auto_leave);
 }

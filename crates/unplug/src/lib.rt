@@ -2,7 +2,7 @@
 // as the words of a STATE (docs/EMBEDDING.md) and read where they stand: no copy of it, no log and no configuration is made.
 #![tactic(auto)]
 
-ghost use Rattle.std.specs.Prelude.{◌≡◌, true, not, ◌&&◌, ◌+◌, ◌*◌, ◌≤◌, length};
+ghost use Rattle.std.specs.Prelude.{◌≡◌, ℕ, true, not, ◌&&◌, ◌+◌, ◌*◌, ◌≤◌, length};
 ghost use Rattle.rules.specs.Ids.{ascending};
 ghost use Rattle.rules.specs.Unplug.{voter_left};
 ghost use Rattle.idset.specs.Set.{held, well_formed};
@@ -90,19 +90,38 @@ fn word(s: &[u64], k: usize) -> u64
 fn holds(s: &[u64]) -> bool
     ensures { result ≡ state_holds_in s.now }
 {
-    at_most(s, AUTO_LEAVE, 1, 1, 1)
-        && at_most(s, RECORDS + RECORD_STATE, Tracker::CAPACITY, RECORD, 2)
-        && at_most(s, RECORDS + PAUSED, Tracker::CAPACITY, RECORD, 1)
-        && at_most(s, RECORDS + RECENT_ACTIVE, Tracker::CAPACITY, RECORD, 1)
+    at_most(|k| word(s, k), AUTO_LEAVE, 1, 1, 1)
+        && at_most(
+            |k| word(s, k),
+            RECORDS + RECORD_STATE,
+            Tracker::CAPACITY,
+            RECORD,
+            2,
+        )
+        && at_most(
+            |k| word(s, k),
+            RECORDS + PAUSED,
+            Tracker::CAPACITY,
+            RECORD,
+            1,
+        )
+        && at_most(
+            |k| word(s, k),
+            RECORDS + RECENT_ACTIVE,
+            Tracker::CAPACITY,
+            RECORD,
+            1,
+        )
 }
 
 // Whether `n` words from `k` on, `step` apart, are at most `most`.
-fn at_most(s: &[u64], k: usize, n: usize, step: usize, most: u64) -> bool
-    requires { k + n * step ≤ 4096 }
-    ensures { result ≡ within_by n most step (word_in s.now) k }
+pub fn at_most<F: Fn(usize) -> u64>(word: F, k: usize, n: usize, step: usize, most: u64) -> bool
+    requires callable { F.IsAlwaysCallable word }
+    requires room { k + n * step ≤ 4096 }
+    ensures { (f : ℕ → ℕ) → ((i r : ℕ) → F.post word i r → r ≡ f i) → result ≡ within_by n most step f k }
 {
     for i in 0..n {
-        if most < word(s, k + i * step) {
+        if most < word(k + i * step) {
             return false;
         }
     }
