@@ -1,9 +1,7 @@
 -- Words that are put into a slice one after the other. Assumes nothing.
-use Prim.Native.Nat.{ℕ, suc, ◌+◌, ◌-◌, ◌/◌, ◌%◌, ◌≤◌, ◌<◌}
+use Prim.Native.Nat.{ℕ}
 use mathlib.Core.Path.{◌≡◌, refl, ap, sym, ◌∙◌}
 use mathlib.Core.List.{List, [], ◌∷◌, ◌++◌, append_assoc, append-nil}
-use native.Mathlib.Omega.{arith}
-use lib.ListN.{length, get_or}
 use Rattle.progress.specs.declared.Progress.{Progress}
 use Rattle.tracker.specs.declared.Configuration.{Configuration}
 use Rattle.tracker.specs.declared.MapChange.{MapChange}
@@ -11,41 +9,18 @@ use Rattle.tracker.specs.declared.ChangeLog.{ChangeLog}
 use Rattle.tracker.specs.declared.Tracker.{Tracker}
 use Rattle.tracker.specs.declared.ConfState.{ConfState}
 use Rattle.text.specs.Text.{each}
-use Rattle.text.specs.Put.{Put, last}
-use Rattle.text.proofs.Laws.{Rest, rest_all, rest_put, rest_none, rest-length, Passing, pass_start, pass_next, pass_end, pass_length}
+use Rattle.std.specs.Int.{w64, to_le_bytes}
+use native.Mathlib.Nat.{div-div-eq-div-mul}
 use Rattle.calls.specs.declared.Reply.{Reply}
 use Rattle.calls.specs.Reply.{bytes, word_bytes, all_bytes, flag_word, set_words, list_words, conf_words, record_words, records_words, state_words, kind_word, entries_words, log_words, conf_state_words}
 use Rattle.calls.specs.Call.{reply_words}
 
 -- ** One word
 
--- a loop that puts the 8 bytes of n has come to byte i, and r is what is left of the number
-pub record Spelling (old : List ℕ) (at n : ℕ) (out : List ℕ) (p r i : ℕ) : Type 0 where
-  pub within : i ≤ 8
-  pub left : Rest old at (word_bytes n) out p (bytes (8 - i) r)
-
-pub spell_start : {old : List ℕ} {at n : ℕ} → length old ≤ last → at ≤ last → Spelling old at n old at n 0
-unfolding word_bytes
-spell_start h k = record { within = omega arith; left = rest_all h k }
-
-bytes_next : (i r : ℕ) → i < 8 → bytes (8 - i) r ≡ r % 256 ∷ bytes (8 - (i + 1)) (r / 256)
-unfolding bytes
-bytes_next i r h =
-    let e : 8 - i ≡ suc (8 - (i + 1)) = omega arith in
-    ap (λ (k : ℕ). bytes k r) e
-
-module _ {old : List ℕ} {at n : ℕ} {out : List ℕ} {p r i : ℕ} (s : Spelling old at n out p r i) where
-  pub spell_next : i < 8 → {new : List ℕ} {q : ℕ} → Put out p (r % 256 ∷ []) new q → Spelling old at n new q (r / 256) (i + 1)
-  spell_next h f = record { within = omega arith; left = rest_put {x = r % 256 ∷ []} (rw (bytes_next i r h) at s.left) f }
-
-  pub spell_length : length out ≡ length old
-  spell_length = rest-length s.left
-
-  pub spell_end : 8 ≤ i → Put old at (word_bytes n) out p
-  unfolding bytes
-  spell_end h =
-      let e : 8 - i ≡ 0 = omega arith in
-      rest_none (rw e at s.left)
+-- of a number it is what `to_le_bytes` gives
+pub word_le : (n : ℕ) → to_le_bytes w64 n ≡ word_bytes n
+unfolding bytes word_bytes
+word_le n = simp div-div-eq-div-mul
 
 -- ** Words
 
@@ -115,25 +90,3 @@ pub each-entry : (es : List MapChange) → each entry_bytes es ≡ all_bytes (en
 unfolding each all_bytes entries_words
 each-entry [] = refl
 each-entry (e ∷ es) = ap (λ (l : List ℕ). entry_bytes e ++ l) (each-entry es) ∙ sym (all_append (e.id ∷ kind_word e.kind ∷ []) (entries_words es))
-
-pub all-entry : (e : MapChange) → entry_bytes e ≡ word_bytes e.id ++ word_bytes (kind_word e.kind)
-unfolding all_bytes entries_words
-all-entry e = ap (λ (l : List ℕ). word_bytes e.id ++ l) (append-nil (word_bytes (kind_word e.kind)))
-
--- a loop that puts each of the k of xs has come to place i
-pub record Walking {A : Type 0} (k : ℕ) (f : A → List ℕ) (xs : List A) (old : List ℕ) (at : ℕ) (out : List ℕ) (p i : ℕ) : Type 0 where
-  pub sized : length xs ≡ k
-  pub pass : Passing f xs (each f xs) old at out p i
-
-pub walk_start : {A : Type 0} {k : ℕ} {f : A → List ℕ} {xs : List A} {l : List ℕ} {at : ℕ} → length xs ≡ k → length l ≤ last → at ≤ last → Walking k f xs l at l at 0
-walk_start e h m = record { sized = e; pass = pass_start h m }
-
-module _ {A : Type 0} {k : ℕ} {f : A → List ℕ} {xs : List A} {old : List ℕ} {at : ℕ} {out : List ℕ} {p i : ℕ} (s : Walking k f xs old at out p i) where
-  pub walk_end : k ≤ i → Put old at (each f xs) out p
-  walk_end h = pass_end s.pass (omega (arith, s.sized))
-
-  pub walk_length : length out ≡ length old
-  walk_length = pass_length s.pass
-
-  pub walk_next : (d : A) → i < k → {new : List ℕ} {q : ℕ} → Put out p (f (get_or xs i d)) new q → Walking k f xs old at new q (i + 1)
-  walk_next d h g = record { sized = s.sized; pass = pass_next s.pass d (omega (arith, s.sized)) g }

@@ -1,5 +1,5 @@
 -- One call on any state, in bytes: docs/EMBEDDING.md. Assumes nothing.
-use Rattle.std.specs.Prelude.{ℕ, Bool, false, not, cond, List, [], ◌∷◌, ◌++◌, eqb, ltb, length, take, drop}
+use Rattle.std.specs.Prelude.{◌≡◌, ◌≤◌, Result, MatchResult, ℕ, Bool, false, not, cond, List, [], ◌∷◌, ◌++◌, eqb, ltb, length, take, drop}
 use Rattle.rules.specs.Apply.{no_conf_state}
 use Rattle.tracker.specs.Bridge.{change_log_of, conf_state_of}
 use Rattle.tracker.specs.Apply.{apply_of}
@@ -18,6 +18,10 @@ use Rattle.restore.specs.Restore.{restore_of, step_by_step_of}
 use Rattle.unplug.specs.Words.{flag}
 use Rattle.calls.specs.Layout.{word, conf_at, state_at, log_at, conf_state_at, change_list_at, holds}
 use Rattle.calls.specs.Reply.{all_bytes, flag_word, state_words, log_words, conf_state_words}
+use Rattle.calls.specs.Asked.{call_number, refusal_number}
+use Rattle.calls.specs.declared.asked.Call.{Call}
+use Rattle.calls.specs.declared.asked.Call.TheVariants.{Check, InOrder, Simple, EnterJoint, LeaveJoint, ApplyConf, ToConfState, Restore, RestoreStepByStep}
+use Rattle.calls.specs.declared.asked.Unanswered.{Unanswered}
 use Rattle.calls.specs.declared.Reply.{Reply}
 
 -- ** What a call answers
@@ -55,16 +59,19 @@ ids_in s = take (word s 1230) (change_list_at s 970).ids
 abbrev pub kinds_in : List ℕ → List ℕ
 kinds_in s = take (word s 1491) (change_list_at s 970).kinds
 
--- 2 simple, 3 enter_joint, 4 leave_joint
-abbrev pub ask_in : List ℕ → ℕ → Tracker → Answer
-ask_in s call t =
-    cond (eqb call 4) (leave_answer t)
-    (cond (eqb call 2) (simple_answer t (ids_in s) (kinds_in s)) (enter_answer t (flag (word s 968)) (ids_in s) (kinds_in s)))
+-- what a call answers to the request s
+abbrev pub reply_for : List ℕ → Call → Reply
+reply_for s Check = from_verdict (state_at s 1) (check_of (state_at s 1))
+reply_for s InOrder = reply 0 0 (in_order_of (state_at s 1)) (state_at s 1) no_log no_lists 0
+reply_for s Simple = from_answer (state_at s 1) (simple_answer (state_at s 1) (ids_in s) (kinds_in s))
+reply_for s EnterJoint = from_answer (state_at s 1) (enter_answer (state_at s 1) (flag (word s 968)) (ids_in s) (kinds_in s))
+reply_for s LeaveJoint = from_answer (state_at s 1) (leave_answer (state_at s 1))
+reply_for s ApplyConf = from_outcome (apply_of (state_at s 1) (conf_at s 1492) (log_at s 1753) (word s 969))
+reply_for s ToConfState = from_written (state_at s 1) (written_of (state_at s 1))
+reply_for s Restore = from_outcome (restore_of (state_at s 1) (conf_state_at s 2266) (word s 969))
+reply_for s RestoreStepByStep = from_outcome (step_by_step_of (state_at s 1) (conf_state_at s 2266) (word s 969))
 
--- 7 restore, 8 restore_step_by_step
-abbrev pub restored_in : List ℕ → ℕ → Outcome
-restored_in s call = cond (eqb call 7) (restore_of (state_at s 1) (conf_state_at s 2266) (word s 969)) (step_by_step_of (state_at s 1) (conf_state_at s 2266) (word s 969))
-
+-- the same by the word that asks for it
 unfoldable pub reply_to : List ℕ → Reply
 reply_to s =
     cond (eqb (word s 0) 0) (from_verdict (state_at s 1) (check_of (state_at s 1)))
@@ -93,3 +100,7 @@ call_answer s room =
 -- the reply at the front, every byte after it kept; as it was where the answer is not 0
 unfoldable pub call_leaves : List ℕ → List ℕ → List ℕ
 call_leaves s out = cond (eqb (call_answer s (length out)) 0) (all_bytes (reply_words (reply_to s)) ++ drop 13960 out) out
+
+-- the call that is asked for, where it is answered; else why not
+abbrev pub Asks : List ℕ → ℕ → Result Call Unanswered → Type 0
+Asks s room r = MatchResult r (λ c. (call_answer s room ≡ 0) × (call_number c ≡ word s 0) × (13960 ≤ room)) (λ e. call_answer s room ≡ refusal_number e)

@@ -2,18 +2,25 @@
 // This is how another language embeds the library, and how it is compared with the Rust.
 #![tactic(auto)]
 
-ghost use Rattle.std.specs.Prelude.{◌≡◌, min, length};
+ghost use Rattle.std.specs.Prelude.{◌≡◌, length};
 ghost use Rattle.tracker.specs.ConfStates.{written_of};
 ghost use Rattle.confstate.specs.Entries.{read_answer, read_leaves, write_answer, write_leaves};
 ghost use Rattle.comparison.specs.Compare.{compare_answer, compare_leaves};
-ghost use Rattle.calls.specs.Call.{from_verdict, from_answer, from_outcome, from_written, reply as reply_of, no_log, no_lists, ask_in, restored_in, reply_to, call_answer, call_leaves};
-ghost use Rattle.calls.specs.Unplugs.{unplug_answer, unplug_leaves};
+ghost use Rattle.changer.specs.Calls.{simple_answer, enter_answer};
+ghost use Rattle.restore.specs.Restore.{restore_of, step_by_step_of};
+ghost use Rattle.unplug.specs.Words.{flag};
+ghost use Rattle.calls.specs.Layout.{word, state_at, conf_state_at};
+ghost use Rattle.calls.specs.Call.{from_verdict, from_answer, from_outcome, from_written, reply as reply_of, no_log, no_lists, ids_in, kinds_in, reply_for, Asks, call_answer, call_leaves};
+ghost use Rattle.calls.specs.Unplugs.{Unplugs, unplug_answer, unplug_leaves};
 
-use crate::read::ChangeList;
+use crate::asked::{Call, Unanswered};
+use crate::places::{AUTO_LEAVE, CALL, NEXT_IDX, REPLY, REQUEST};
 use changer::Answer;
 use tracker::apply::applied;
 use tracker::{ChangeLog, ConfState, Outcome, Tracker, Verdict};
 
+mod asked; // which call, and why it is not answered
+mod places; // the places in a request
 pub mod read; // a request
 pub mod write; // a reply
 
@@ -34,20 +41,30 @@ pub struct Reply {
 pub fn dimecandle_call(request: &[u8], reply: &mut [u8]) -> u64
     ensures { (result ≡ call_answer request.now (length reply.old)) × (reply.new ≡ call_leaves request.now reply.old) }
 {
-    if request.len() != 20216 {
-        return 1;
+    match call_in(request, reply.len()) {
+        Ok(call) => {
+            write::put_reply(reply, reply_to(request, call));
+            0
+        }
+        Err(why) => why.number(),
     }
-    if reply.len() < 13960 {
-        return 2;
+}
+
+// The call that a request asks for, where its answer has `room`.
+fn call_in(request: &[u8], room: usize) -> Result<Call, Unanswered>
+    ensures { Asks request.now room result }
+{
+    if request.len() != REQUEST {
+        return Err(Unanswered::Length);
     }
-    if 8 < read::word(request, 0) {
-        return 3;
+    if room < REPLY {
+        return Err(Unanswered::Room);
     }
+    let call = Call::try_from(read::word(request, CALL))?;
     if !read::holds(request) {
-        return 4;
+        return Err(Unanswered::Word);
     }
-    write::put_reply(reply, reply_to(request));
-    0
+    Ok(call)
 }
 
 // Can this box be unplugged? The number and id of `simple` with the removal of `id` alone, of a STATE in words, at the front of `verdict`: 0. A state that has
@@ -55,19 +72,27 @@ pub fn dimecandle_call(request: &[u8], reply: &mut [u8]) -> u64
 pub fn dimecandle_unplug(state: &[u64], id: u64, verdict: &mut [u64]) -> u64
     ensures { (result ≡ unplug_answer state.now (length verdict.old)) × (verdict.new ≡ unplug_leaves state.now id verdict.old) }
 {
-    if state.len() != 967 {
-        return 1;
+    match unplugged(state, id, verdict.len()) {
+        Ok(told) => {
+            verdict[0] = told.number;
+            verdict[1] = told.id;
+            0
+        }
+        Err(why) => why.number(),
     }
-    if verdict.len() < 2 {
-        return 2;
+}
+
+// The number and id, where a verdict has `room`.
+fn unplugged(state: &[u64], id: u64, room: usize) -> Result<Verdict, Unanswered>
+    ensures { Unplugs state.now id room result }
+{
+    if state.len() != unplug::layout::WORDS {
+        return Err(Unanswered::Length);
     }
-    let told = unplug::unplug(state, id);
-    if told.returned != 0 {
-        return told.returned;
+    if room < 2 {
+        return Err(Unanswered::Room);
     }
-    verdict[0] = told.number;
-    verdict[1] = told.id;
-    0
+    Ok(unplug::unplug(state, id)?)
 }
 
 // A ConfState read from its bytes into the words of a CONFSTATE: 0; or 28, 29, 30, and four empty lists and a false flag. The words after them are kept.
@@ -94,66 +119,55 @@ pub fn dimecandle_compare(first: &[u8], second: &[u8], out: &mut [u8]) -> u64
     comparison::compare(first, second, out)
 }
 
-fn reply_to(s: &[u8]) -> Reply
-    ensures { result ≡ reply_to s.now }
+// What `call` answers to a request.
+fn reply_to(s: &[u8], call: Call) -> Reply
+    ensures { result ≡ reply_for s.now call }
 {
-    let call = read::word(s, 0);
     let t = read::state(s);
-    if call == 0 {
-        return from_verdict(t, invariants::check(t));
+    match call {
+        Call::Check => from_verdict(t, invariants::check(t)),
+        Call::InOrder => from_yes(t, invariants::in_order(t)),
+        Call::Simple => from_answer(t, simple(s, t)),
+        Call::EnterJoint => from_answer(t, enter_joint(s, t)),
+        Call::LeaveJoint => from_answer(t, changer::leave_joint(t)),
+        Call::ApplyConf => from_outcome(applied(
+            t,
+            read::conf(s),
+            read::log(s),
+            read::word(s, NEXT_IDX),
+        )),
+        Call::ToConfState => from_written(t),
+        Call::Restore => from_outcome(restored(s)),
+        Call::RestoreStepByStep => from_outcome(restored_step_by_step(s)),
     }
-    if call == 1 {
-        return from_yes(t, invariants::in_order(t));
-    }
-    if call < 5 {
-        return from_answer(t, ask(s, call, t));
-    }
-    if call == 5 {
-        return from_outcome(applied(t, read::conf(s), read::log(s), read::word(s, 969)));
-    }
-    if call == 6 {
-        return from_written(t);
-    }
-    from_outcome(restored(s, call))
 }
 
-// 2 simple, 3 enter_joint, 4 leave_joint.
-fn ask(s: &[u8], call: u64, t: Tracker) -> Answer
-    ensures { result ≡ ask_in s.now call t }
+fn simple(s: &[u8], t: Tracker) -> Answer
+    ensures { result ≡ simple_answer t (ids_in s.now) (kinds_in s.now) }
 {
-    if call == 4 {
-        return changer::leave_joint(t);
-    }
     let list = read::change_list(s);
-    let ids = list.ids;
-    let kinds = list.kinds;
-    let m = least(list.ids_len);
-    let n = least(list.kinds_len);
-    if call == 2 {
-        return changer::simple(t, &ids[..m], &kinds[..n]);
-    }
-    changer::enter_joint(t, read::word(s, 968) == 1, &ids[..m], &kinds[..n])
+    changer::simple(t, list.ids(), list.kinds())
 }
 
-// 7 restore, 8 restore_step_by_step. One call of the latter serves both, and the state given is read again rather than kept: that saves stack.
-fn restored(s: &[u8], call: u64) -> Outcome
-    ensures { result ≡ restored_in s.now call }
+fn enter_joint(s: &[u8], t: Tracker) -> Answer
+    ensures { result ≡ enter_answer t (flag (word s.now 968)) (ids_in s.now) (kinds_in s.now) }
 {
-    let o = restore::restore_step_by_step(read::state(s), read::conf_state(s), read::word(s, 969));
-    if call == 7 {
-        return restore::whole(read::state(s), o);
-    }
-    o
+    let list = read::change_list(s);
+    changer::enter_joint(t, read::word(s, AUTO_LEAVE) == 1, list.ids(), list.kinds())
 }
 
-fn least(n: usize) -> usize
-    ensures { result ≡ min n 260 }
+// The state given is read again rather than kept: that saves stack.
+fn restored(s: &[u8]) -> Outcome
+    ensures { result ≡ restore_of (state_at s.now 1) (conf_state_at s.now 2266) (word s.now 969) }
 {
-    if n < ChangeList::CAPACITY {
-        n
-    } else {
-        ChangeList::CAPACITY
-    }
+    let o = restored_step_by_step(s);
+    restore::whole(read::state(s), o)
+}
+
+fn restored_step_by_step(s: &[u8]) -> Outcome
+    ensures { result ≡ step_by_step_of (state_at s.now 1) (conf_state_at s.now 2266) (word s.now 969) }
+{
+    restore::restore_step_by_step(read::state(s), read::conf_state(s), read::word(s, NEXT_IDX))
 }
 
 fn from_verdict(t: Tracker, v: Verdict) -> Reply
@@ -172,15 +186,13 @@ fn from_yes(t: Tracker, yes: bool) -> Reply
 fn reply_of(number: u64, id: u64, yes: bool, t: Tracker) -> Reply
     ensures { result ≡ reply_of number id yes t no_log no_lists 0 }
 {
-    let log = ChangeLog::new();
-    let conf_state = ConfState::new();
     Reply {
         number,
         id,
         yes,
         tracker: t,
-        log,
-        conf_state,
+        log: ChangeLog::new(),
+        conf_state: ConfState::new(),
         idle: 0,
     }
 }
@@ -189,42 +201,26 @@ fn reply_of(number: u64, id: u64, yes: bool, t: Tracker) -> Reply
 fn from_answer(t: Tracker, a: Answer) -> Reply
     ensures { result ≡ from_answer t a }
 {
-    let mut tracker = t;
-    let conf = a.conf;
-    tracker.conf = conf;
-    let log = a.log;
-    let conf_state = ConfState::new();
+    let tracker = Tracker { conf: a.conf, ..t };
     Reply {
-        number: a.number,
-        id: a.id,
-        yes: false,
-        tracker,
-        log,
-        conf_state,
+        log: a.log,
         idle: a.idle,
+        ..reply_of(a.number, a.id, false, tracker)
     }
 }
 
 fn from_outcome(o: Outcome) -> Reply
     ensures { result ≡ from_outcome o }
 {
-    let tracker = o.tracker;
-    reply_of(o.number, o.id, false, tracker)
+    reply_of(o.number, o.id, false, o.tracker)
 }
 
 fn from_written(t: Tracker) -> Reply
     ensures { result ≡ from_written t (written_of t) }
 {
     let w = t.to_conf_state();
-    let log = ChangeLog::new();
-    let conf_state = w.conf_state;
     Reply {
-        number: w.number,
-        id: w.id,
-        yes: false,
-        tracker: t,
-        log,
-        conf_state,
-        idle: 0,
+        conf_state: w.conf_state,
+        ..reply_of(w.number, w.id, false, t)
     }
 }

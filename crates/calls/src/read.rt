@@ -1,11 +1,13 @@
 // A request, read off its bytes: docs/EMBEDDING.md. Places are counted in words.
-ghost use Rattle.std.specs.Prelude.{◌≡◌, ◌+◌, ◌*◌, ◌≤◌, get_or};
+ghost use Rattle.std.specs.Prelude.{◌≡◌, ◌+◌, ◌*◌, ◌≤◌, length, min, take};
 ghost use Rattle.unplug.specs.Words.{state_named};
-ghost use Rattle.calls.specs.Layout.{number, word as word_at, words as words_at, kind_named, set_at, list_at, conf_at, record_at, records_at, state_at, entries_at, log_at, conf_state_at, kinds_at, change_list_at, within, state_holds, list_holds, holds as holds_in};
+ghost use Rattle.calls.specs.Layout.{number, word as word_at, words as words_at, kind_named, set_at, list_at, conf_at, record_at, records_at, state_at, entries_at, log_at, conf_state_at, kinds_at, change_list_at, state_holds, list_holds, holds as holds_in};
 
+use crate::places::{AUTO_LEAVE, CONF, CONF_STATE, LIST, LOG, NEXT_IDX, STATE};
 use idset::IdSet;
 use progress::{Progress, ProgressState};
 use tracker::{ChangeLog, ConfState, Configuration, IdList, MapChange, MapChangeType, Tracker};
+use unplug::{at_most, layout};
 
 // The LIST: ids and kinds, and how many of each.
 #[derive(Clone, Copy)]
@@ -19,6 +21,19 @@ pub struct ChangeList {
 impl ChangeList {
     // More than a change list has, so that what is refused with 2 can be asked.
     pub const CAPACITY: usize = 260;
+
+    // As many of the ids as the list says, and no more than it has.
+    pub(crate) fn ids(&self) -> &[u64]
+        ensures { result.now ≡ take (min self.now.ids_len 260) self.now.ids }
+    {
+        &self.ids[..self.ids_len.min(Self::CAPACITY)]
+    }
+
+    pub(crate) fn kinds(&self) -> &[u8]
+        ensures { result.now ≡ take (min self.now.kinds_len 260) self.now.kinds }
+    {
+        &self.kinds[..self.kinds_len.min(Self::CAPACITY)]
+    }
 }
 
 // Word `k`; a byte that is not there counts as 0.
@@ -32,40 +47,27 @@ pub fn word(s: &[u8], k: usize) -> u64
 }
 
 // Whether every word can be held by its field.
+#[tactic(auto, unfolding(crate::specs::Layout::holds))]
 pub fn holds(s: &[u8]) -> bool
     ensures { result ≡ holds_in s.now }
 {
-    if !state_holds(s, 1) {
-        return false;
-    }
-    if !at_most(s, 968, 1, 1, 1) {
-        return false;
-    }
-    if !list_holds(s, 970) {
-        return false;
-    }
-    if !at_most(s, 1752, 1, 1, 1) {
-        return false;
-    }
-    if !at_most(s, 1754, ChangeLog::CAPACITY, 2, 1) {
-        return false;
-    }
-    at_most(s, 2526, 1, 1, 1)
+    state_holds(s, STATE)
+        && at_most(|k| word(s, k), AUTO_LEAVE, 1, 1, 1)
+        && list_holds(s, LIST)
+        && at_most(|k| word(s, k), CONF + layout::AUTO_LEAVE, 1, 1, 1)
+        && at_most(|k| word(s, k), LOG + 1, ChangeLog::CAPACITY, 2, 1)
+        && at_most(|k| word(s, k), CONF_STATE + layout::AUTO_LEAVE, 1, 1, 1)
 }
 
 // The STATE of a request.
 pub fn state(s: &[u8]) -> Tracker
     ensures { result ≡ state_at s.now 1 }
 {
-    let conf = conf_at(s, 1);
-    let ids = set_at(s, 262);
-    let records = records_at(s, 327);
-    let max_inflight = word(s, 967);
     Tracker {
-        conf,
-        ids,
-        records,
-        max_inflight,
+        conf: conf_at(s, STATE),
+        ids: set_at(s, STATE + layout::TRACKED),
+        records: records_at(s, STATE + layout::RECORDS),
+        max_inflight: word(s, STATE + layout::RECORDS_END),
     }
 }
 
@@ -73,13 +75,12 @@ pub fn state(s: &[u8]) -> Tracker
 pub fn change_list(s: &[u8]) -> ChangeList
     ensures { result ≡ change_list_at s.now 970 }
 {
-    let ids = ids_at(s, 970);
-    let kinds = kinds_at(s, 1231);
+    let kinds = LIST + ChangeList::CAPACITY + 1;
     ChangeList {
-        ids,
-        ids_len: word(s, 1230) as usize,
-        kinds,
-        kinds_len: word(s, 1491) as usize,
+        ids: words_at(s, LIST),
+        ids_len: word(s, LIST + ChangeList::CAPACITY) as usize,
+        kinds: kinds_at(s, kinds),
+        kinds_len: word(s, kinds + ChangeList::CAPACITY) as usize,
     }
 }
 
@@ -87,78 +88,42 @@ pub fn change_list(s: &[u8]) -> ChangeList
 pub fn conf(s: &[u8]) -> Configuration
     ensures { result ≡ conf_at s.now 1492 }
 {
-    conf_at(s, 1492)
+    conf_at(s, CONF)
 }
 
 // The LOG of a request.
 pub fn log(s: &[u8]) -> ChangeLog
     ensures { result ≡ log_at s.now 1753 }
 {
-    let entries = entries_at(s, 1753);
     ChangeLog {
-        entries,
-        count: word(s, 2265) as usize,
+        entries: entries_at(s, LOG),
+        count: word(s, LOG + 2 * ChangeLog::CAPACITY) as usize,
     }
 }
 
-// The CONFSTATE of a request.
+// The CONFSTATE of a request: its four lists and the flag lie as the sets of a CONF do.
 pub fn conf_state(s: &[u8]) -> ConfState
     ensures { result ≡ conf_state_at s.now 2266 }
 {
-    let voters = list_at(s, 2266);
-    let learners = list_at(s, 2331);
-    let voters_outgoing = list_at(s, 2396);
-    let learners_next = list_at(s, 2461);
     ConfState {
-        voters,
-        learners,
-        voters_outgoing,
-        learners_next,
-        auto_leave: word(s, 2526) == 1,
+        voters: list_at(s, CONF_STATE + layout::INCOMING),
+        learners: list_at(s, CONF_STATE + layout::OUTGOING),
+        voters_outgoing: list_at(s, CONF_STATE + layout::LEARNERS),
+        learners_next: list_at(s, CONF_STATE + layout::LEARNERS_NEXT),
+        auto_leave: word(s, CONF_STATE + layout::AUTO_LEAVE) == 1,
     }
 }
 
 // The 8 bytes from `at` on as a number, the least significant first; a byte that is not there counts as 0.
 fn number_at(s: &[u8], at: usize) -> u64
+    requires { at ≤ length s.now }
     ensures { result ≡ number 8 s.now at }
 {
-    let mut n: u64 = 0;
-    let mut i: usize = 8;
-    while 0 < i {
-        i -= 1;
-        n = n * 256 + byte_at(s, at, i);
+    let mut bytes = [0u8; 8];
+    for i in 0..8 {
+        bytes[i] = s.get(at + i).copied().unwrap_or(0);
     }
-    n
-}
-
-// The byte `i` places after `at`, 0 where there is none.
-fn byte_at(s: &[u8], at: usize, i: usize) -> u64
-    ensures { result ≡ get_or s.now (at + i) 0 }
-{
-    if s.len() <= at {
-        return 0;
-    }
-    if s.len() - at <= i {
-        return 0;
-    }
-    s[at + i] as u64
-}
-
-// Whether `n` words from `k` on, `step` apart, are at most `most`.
-fn at_most(s: &[u8], k: usize, n: usize, step: usize, most: u64) -> bool
-    requires { k + n * step ≤ 4096 }
-    ensures { result ≡ within n most step s.now k }
-{
-    let mut at = k;
-    let mut left = n;
-    while 0 < left {
-        if most < word(s, at) {
-            return false;
-        }
-        at += step;
-        left -= 1;
-    }
-    true
+    u64::from_le_bytes(bytes)
 }
 
 // The flag of the CONF, and of each RECORD its state and its two flags.
@@ -166,17 +131,29 @@ fn state_holds(s: &[u8], k: usize) -> bool
     requires { k ≤ 2048 }
     ensures { result ≡ state_holds s.now k }
 {
-    if !at_most(s, k + 260, 1, 1, 1) {
-        return false;
-    }
-    let records = k + 326;
-    if !at_most(s, records + 2, Tracker::CAPACITY, 10, 2) {
-        return false;
-    }
-    if !at_most(s, records + 3, Tracker::CAPACITY, 10, 1) {
-        return false;
-    }
-    at_most(s, records + 6, Tracker::CAPACITY, 10, 1)
+    let records = k + layout::RECORDS;
+    at_most(|k| word(s, k), k + layout::AUTO_LEAVE, 1, 1, 1)
+        && at_most(
+            |k| word(s, k),
+            records + layout::RECORD_STATE,
+            Tracker::CAPACITY,
+            layout::RECORD,
+            2,
+        )
+        && at_most(
+            |k| word(s, k),
+            records + layout::PAUSED,
+            Tracker::CAPACITY,
+            layout::RECORD,
+            1,
+        )
+        && at_most(
+            |k| word(s, k),
+            records + layout::RECENT_ACTIVE,
+            Tracker::CAPACITY,
+            layout::RECORD,
+            1,
+        )
 }
 
 // Both counts, and each kind.
@@ -184,13 +161,17 @@ fn list_holds(s: &[u8], k: usize) -> bool
     requires { k ≤ 2048 }
     ensures { result ≡ list_holds s.now k }
 {
-    if !at_most(s, k + 260, 1, 1, 260) {
-        return false;
-    }
-    if !at_most(s, k + 261, 260, 1, 255) {
-        return false;
-    }
-    at_most(s, k + 521, 1, 1, 260)
+    let most = ChangeList::CAPACITY as u64;
+    let kinds = k + ChangeList::CAPACITY + 1;
+    at_most(|k| word(s, k), k + ChangeList::CAPACITY, 1, 1, most)
+        && at_most(
+            |k| word(s, k),
+            kinds,
+            ChangeList::CAPACITY,
+            1,
+            u64::from(u8::MAX),
+        )
+        && at_most(|k| word(s, k), kinds + ChangeList::CAPACITY, 1, 1, most)
 }
 
 // A CONF.
@@ -198,16 +179,13 @@ fn conf_at(s: &[u8], k: usize) -> Configuration
     requires { k ≤ 4096 }
     ensures { result ≡ conf_at s.now k }
 {
-    let incoming = set_at(s, k);
-    let outgoing = set_at(s, k + 65);
-    let learners = set_at(s, k + 130);
-    let learners_next = set_at(s, k + 195);
+    let learners = set_at(s, k + layout::LEARNERS);
     Configuration {
-        incoming,
-        outgoing,
+        incoming: set_at(s, k + layout::INCOMING),
+        outgoing: set_at(s, k + layout::OUTGOING),
         learners,
-        learners_next,
-        auto_leave: word(s, k + 260) == 1,
+        learners_next: set_at(s, k + layout::LEARNERS_NEXT),
+        auto_leave: word(s, k + layout::AUTO_LEAVE) == 1,
     }
 }
 
@@ -216,9 +194,8 @@ fn set_at(s: &[u8], k: usize) -> IdSet
     requires { k ≤ 8192 }
     ensures { result ≡ set_at s.now k }
 {
-    let ids = words_at(s, k);
     IdSet {
-        ids,
+        ids: words_at(s, k),
         len: word(s, k + IdSet::CAPACITY) as usize,
     }
 }
@@ -228,39 +205,20 @@ fn list_at(s: &[u8], k: usize) -> IdList
     requires { k ≤ 8192 }
     ensures { result ≡ list_at s.now k }
 {
-    let ids = words_at(s, k);
-    IdList {
-        ids,
-        len: word(s, k + IdSet::CAPACITY) as usize,
-    }
+    let IdSet { ids, len } = set_at(s, k);
+    IdList { ids, len }
 }
 
-// 64 words.
-fn words_at(s: &[u8], k: usize) -> [u64; IdSet::CAPACITY]
-    requires { k ≤ 8192 }
-    ensures { result ≡ words_at 64 s.now k }
+// `N` words.
+fn words_at<const N: usize>(s: &[u8], k: usize) -> [u64; N]
+    requires { (k ≤ 8192) × (N ≤ 8192) }
+    ensures { result ≡ words_at N s.now k }
 {
-    let mut out = [0u64; IdSet::CAPACITY];
-    let mut i = 0;
-    while i < IdSet::CAPACITY {
-        out[i] = word(s, k + i);
-        i += 1;
+    let mut words = [0; N];
+    for i in 0..N {
+        words[i] = word(s, k + i);
     }
-    out
-}
-
-// The 260 ids of a LIST.
-fn ids_at(s: &[u8], k: usize) -> [u64; ChangeList::CAPACITY]
-    requires { k ≤ 8192 }
-    ensures { result ≡ words_at 260 s.now k }
-{
-    let mut out = [0u64; ChangeList::CAPACITY];
-    let mut i = 0;
-    while i < ChangeList::CAPACITY {
-        out[i] = word(s, k + i);
-        i += 1;
-    }
-    out
+    words
 }
 
 // The 260 kinds of a LIST; one that is over 255 was refused before, and is cut.
@@ -268,13 +226,11 @@ fn kinds_at(s: &[u8], k: usize) -> [u8; ChangeList::CAPACITY]
     requires { k ≤ 8192 }
     ensures { result ≡ kinds_at 260 s.now k }
 {
-    let mut out = [0u8; ChangeList::CAPACITY];
-    let mut i = 0;
-    while i < ChangeList::CAPACITY {
-        out[i] = (word(s, k + i) % 256) as u8;
-        i += 1;
+    let mut kinds = [0; ChangeList::CAPACITY];
+    for i in 0..ChangeList::CAPACITY {
+        kinds[i] = (word(s, k + i) % 256) as u8;
     }
-    out
+    kinds
 }
 
 // The 64 RECORDs.
@@ -282,14 +238,11 @@ fn records_at(s: &[u8], k: usize) -> [Progress; Tracker::CAPACITY]
     requires { k ≤ 4096 }
     ensures { result ≡ records_at 64 s.now k }
 {
-    let unused = Progress::unused();
-    let mut out = [unused; Tracker::CAPACITY];
-    let mut i = 0;
-    while i < Tracker::CAPACITY {
-        out[i] = record_at(s, k + 10 * i);
-        i += 1;
+    let mut records = [Progress::unused(); Tracker::CAPACITY];
+    for i in 0..Tracker::CAPACITY {
+        records[i] = record_at(s, k + layout::RECORD * i);
     }
-    out
+    records
 }
 
 // A RECORD.
@@ -297,32 +250,29 @@ fn record_at(s: &[u8], k: usize) -> Progress
     requires { k ≤ 8192 }
     ensures { result ≡ record_at s.now k }
 {
-    let state = state_named(word(s, k + 2));
     Progress {
         matched: word(s, k),
         next_idx: word(s, k + 1),
-        state,
-        paused: word(s, k + 3) == 1,
+        state: state_named(word(s, k + layout::RECORD_STATE)),
+        paused: word(s, k + layout::PAUSED) == 1,
         pending_snapshot: word(s, k + 4),
         pending_request_snapshot: word(s, k + 5),
-        recent_active: word(s, k + 6) == 1,
+        recent_active: word(s, k + layout::RECENT_ACTIVE) == 1,
         max_inflight: word(s, k + 7),
         commit_group_id: word(s, k + 8),
         committed_index: word(s, k + 9),
     }
 }
 
-// 0 Probe, 1 Replicate, 2 Snapshot.
+// 0 Probe, 1 Replicate, 2 Snapshot; another was refused before.
 fn state_named(w: u64) -> ProgressState
     ensures { result ≡ state_named w }
 {
-    if w == 0 {
-        return ProgressState::Probe;
+    match w {
+        0 => ProgressState::Probe,
+        1 => ProgressState::Replicate,
+        _ => ProgressState::Snapshot,
     }
-    if w == 1 {
-        return ProgressState::Replicate;
-    }
-    ProgressState::Snapshot
 }
 
 // The 256 entries of a LOG.
@@ -334,25 +284,30 @@ fn entries_at(s: &[u8], k: usize) -> [MapChange; ChangeLog::CAPACITY]
         id: 0,
         kind: MapChangeType::Add,
     };
-    let mut out = [blank; ChangeLog::CAPACITY];
-    let mut i = 0;
-    while i < ChangeLog::CAPACITY {
-        let kind = kind_named(word(s, k + 2 * i + 1));
-        out[i] = MapChange {
-            id: word(s, k + 2 * i),
-            kind,
-        };
-        i += 1;
+    let mut entries = [blank; ChangeLog::CAPACITY];
+    for i in 0..ChangeLog::CAPACITY {
+        entries[i] = entry_at(s, k + 2 * i);
     }
-    out
+    entries
 }
 
-// 0 Add, 1 Remove.
+// An entry: its id, and its kind.
+fn entry_at(s: &[u8], k: usize) -> MapChange
+    requires { k ≤ 8192 }
+    ensures { result ≡ record { id = word_at s.now k; kind = kind_named (word_at s.now (k + 1)) } }
+{
+    MapChange {
+        id: word(s, k),
+        kind: kind_named(word(s, k + 1)),
+    }
+}
+
+// 0 Add, 1 Remove; another was refused before.
 fn kind_named(w: u64) -> MapChangeType
     ensures { result ≡ kind_named w }
 {
-    if w == 0 {
-        return MapChangeType::Add;
+    match w {
+        0 => MapChangeType::Add,
+        _ => MapChangeType::Remove,
     }
-    MapChangeType::Remove
 }

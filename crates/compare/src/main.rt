@@ -2,16 +2,17 @@
 // alone for a fault, and says on standard error of which file it is, and why. What is printed is the text of crate comparison.
 #![tactic(auto)]
 
-ghost use Rattle.std.specs.Prelude.{◌≤◌, length, IsTrue};
+ghost use Rattle.std.specs.Prelude.{◌≤◌, length, IfOk, OnOk};
 ghost use Rattle.std.specs.Io.KnownBytes.{Appends};
 ghost use Rattle.comparison.specs.Compare.{comparison};
+ghost use Rattle.streams.specs.Input.{len_read};
 
 use std::env::{Env, FillError};
 use std::fs::File;
 use std::io;
 use std::io::{Error, ErrorKind, Write};
 use std::rt::Files;
-use streams::Input;
+use streams::{Unread, Unwritten};
 
 // A file is read one byte further than it may be long.
 const ROOM: usize = comparison::MAX_FILE + 1;
@@ -34,11 +35,13 @@ fn main(rt: HostRuntime) {
     let mut second = [0u8; ROOM];
     let a = read_file(&rt, 1, &mut first, &mut errors);
     let b = read_file(&rt, 2, &mut second, &mut errors);
-    let m = a.len;
-    let n = b.len;
-    show(
+    let (readable, m, n) = match (a, b) {
+        (Ok(m), Ok(n)) => (true, m, n),
+        _ => (false, 0, 0),
+    };
+    let _ = show(
         &rt,
-        !a.failed && !b.failed,
+        readable,
         &first[..m],
         &second[..n],
         &mut rt.stdout(),
@@ -49,15 +52,17 @@ fn main(rt: HostRuntime) {
 // Whether there is an argument `i`. The program's own name is argument 0.
 fn is_given(rt: &impl Env, i: usize) -> bool {
     let mut front = [0u8; 1];
-    match rt.arg(i, &mut front) {
-        Err(FillError::NotPresent) => false,
-        _ => true,
-    }
+    !matches!(rt.arg(i, &mut front), Err(FillError::NotPresent))
 }
 
 // The file that argument `i` names, read to its end or as far as `buf` goes. What fails is said.
-fn read_file<R: Files + Env, E: Write>(rt: &R, i: usize, buf: &mut [u8], errors: &mut E) -> Input
-    ensures { result.len ≤ length buf.new }
+fn read_file<R: Files + Env, E: Write>(
+    rt: &R,
+    i: usize,
+    buf: &mut [u8],
+    errors: &mut E,
+) -> Result<usize, Unread>
+    ensures { len_read result ≤ length buf.new }
 {
     let mut what = [0u8; MAX_SENTENCE];
     let n = named(rt, i, b": refused 32", &mut what);
@@ -65,10 +70,7 @@ fn read_file<R: Files + Env, E: Write>(rt: &R, i: usize, buf: &mut [u8], errors:
         Ok(mut file) => streams::read_input(&mut file, buf, &what[..n], errors),
         Err(error) => {
             streams::say(errors, &what[..n], &error);
-            Input {
-                len: 0,
-                failed: true,
-            }
+            Err(Unread { len: 0 })
         }
     }
 }
@@ -90,20 +92,14 @@ fn named(rt: &impl Env, i: usize, then: &[u8], out: &mut [u8]) -> usize
     ensures { result ≤ length out.new }
 {
     let mut name = [0u8; MAX_NAME];
-    let n = match rt.arg(i, &mut name) {
-        Ok(n) => n,
-        Err(_) => 0,
-    };
+    let n = rt.arg(i, &mut name).unwrap_or(0);
     let p = text::put_bytes(out, 0, b"compare: ");
     let q = text::put_bytes(out, p, &name[..n]);
     let end = text::put_bytes(out, q, then);
-    if out.len() < end {
-        return out.len();
-    }
-    end
+    end.min(out.len())
 }
 
-// Prints what two files give, and says which of them is refused; whether it was printed. No text is longer than LONGEST (`comparison-size`,
+// Prints what two files give, and says which of them is refused. No text is longer than LONGEST (`comparison-size`,
 // crates/comparison/proofs).
 fn show<W: Write, E: Write>(
     rt: &impl Env,
@@ -112,8 +108,8 @@ fn show<W: Write, E: Write>(
     second: &[u8],
     out: &mut W,
     errors: &mut E,
-) -> bool
-    ensures { IsTrue result → Appends (W.contents out.old) (W.contents out.new) (comparison readable first.now second.now) }
+) -> Result<(), Unwritten>
+    ensures { OnOk result (Appends (W.contents out.old) (W.contents out.new) (comparison readable first.now second.now)) }
 {
     let mut text = [0u8; comparison::LONGEST];
     let n = comparison::put_comparison(&mut text, 0, readable, first, second);
@@ -131,10 +127,7 @@ fn explain<E: Write>(rt: &impl Env, first: &[u8], second: &[u8], errors: &mut E)
     if first_long || second_long {
         return;
     }
-    if is_faulty(rt, 1, first, errors) {
-        return;
-    }
-    is_faulty(rt, 2, second, errors);
+    let _ = is_faulty(rt, 1, first, errors) || is_faulty(rt, 2, second, errors);
 }
 
 // Whether a file is too long, which is then said.
@@ -150,21 +143,15 @@ fn is_long<E: Write>(rt: &impl Env, i: usize, bytes: &[u8], errors: &mut E) -> b
 fn is_faulty<E: Write>(rt: &impl Env, i: usize, bytes: &[u8], errors: &mut E) -> bool {
     let mut words = [0u64; confstate::WORDS];
     let number = confstate::read::read(bytes, &mut words);
-    if number == 28 {
-        say(rt, i, b": refused 28: the message is cut short\n", errors);
-    }
-    if number == 29 {
-        say(rt, i, b": refused 29: the message is malformed\n", errors);
-    }
-    if number == 30 {
-        say(
-            rt,
-            i,
-            b": refused 30: a list has more than 64 ids\n",
-            errors,
-        );
-    }
-    number != 0
+    let then: &[u8] = match number {
+        0 => return false,
+        28 => b": refused 28: the message is cut short\n",
+        29 => b": refused 29: the message is malformed\n",
+        30 => b": refused 30: a list has more than 64 ids\n",
+        _ => return true,
+    };
+    say(rt, i, then, errors);
+    true
 }
 
 // A sentence about a file, on standard error.

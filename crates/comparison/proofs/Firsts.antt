@@ -1,20 +1,17 @@
 -- The next id is not more than the first of any list, and is the first of one; where there is none, every list is empty. Assumes nothing.
-use Prim.Native.Nat.{ℕ, ◌≤◌}
-use mathlib.Core.Path.{◌≡◌, refl, sym, ◌∙◌}
-use mathlib.Core.Bool.{Bool, true, false, ◌&&◌, ◌||◌, cond, true≢false, false≢true}
+use Prim.Native.Nat.{ℕ, ◌≤◌, min}
+use Rattle.std.specs.Prelude.{Option, Some, None}
+use mathlib.Core.Path.{◌≡◌, refl, subst}
+use mathlib.Core.Bool.{Bool, true, false, ◌||◌, false≢true}
 use mathlib.Core.List.{List, [], ◌∷◌}
-use native.Mathlib.Omega.{arith}
-use borrow.Author.Tests.{leb-true, leb-false, le-leb, eq-eqb}
+use native.Mathlib.Omega.{arith, min_cases}
+use borrow.Author.Tests.{leb-true, le-leb, eq-eqb}
 use lib.Dec.{leb}
 use Rattle.rules.specs.State.{ConfState}
 use Rattle.rules.proofs.Sets.{or-true}
 use Rattle.idset.specs.Places.{first_is}
 use Rattle.comparison.specs.Steps.{lesser_of, least_of, next_of, firsts_of}
 use Rattle.comparison.specs.declared.line.Standing.{Standing}
-use Rattle.comparison.specs.declared.walk.Found.{Found}
-
-abbrev nothing : Found
-nothing = record { some = false; id = 0 }
 
 -- ** The least
 
@@ -29,40 +26,38 @@ after_less x y [] h k = refl
 after_less x y (z ∷ zs) h k = le-leb y z (omega (arith, leb-true x z h))
 
 -- a list of which the first was looked at
-pub record Seen (f : Found) (l : List ℕ) : Type 0 where
-  pub none : f.some ≡ false → l ≡ []
-  pub low : f.some ≡ true → not_after f.id l ≡ true
+unfoldable pub Seen : Option ℕ → List ℕ → Type 0
+Seen None l = l ≡ []
+Seen (Some x) l = not_after x l ≡ true
 
-seen_now : (l : List ℕ) (f : Found) → Seen (lesser_of l f) l
-unfolding lesser_of not_after
-seen_now [] f = record { none = λ e. refl; low = λ e. refl }
-seen_now (y ∷ ys) f = by f.some (leb f.id y) refl refl
-  where
-    new : Seen (record { some = true; id = y }) (y ∷ ys)
-    new = record { none = λ e. absurd (true≢false e); low = λ e. le-leb y y (omega arith) }
+pub seen-none : (l : List ℕ) {f : Option ℕ} → f ≡ None → Seen f l → l ≡ []
+unfolding Seen
+seen-none l e s = subst (λ (g : Option ℕ). Seen g l) e s
 
-    by : (s t : Bool) → f.some ≡ s → leb f.id y ≡ t → Seen (cond (s && t) f (record { some = true; id = y })) (y ∷ ys)
-    by true true p q = record { none = λ e. absurd (true≢false (sym p ∙ e)); low = λ e. q }
-    by true false p q = new
-    by false t p q = new
+pub seen-some : (l : List ℕ) {f : Option ℕ} {x : ℕ} → f ≡ Some x → Seen f l → not_after x l ≡ true
+unfolding Seen
+seen-some l e s = subst (λ (g : Option ℕ). Seen g l) e s
 
-seen_still : (l : List ℕ) (f : Found) (k : List ℕ) → Seen f k → Seen (lesser_of l f) k
-unfolding lesser_of not_after
+seen_now : (l : List ℕ) (f : Option ℕ) → Seen (lesser_of l f) l
+unfolding Seen lesser_of not_after
+seen_now [] None = refl
+seen_now [] (Some x) = refl
+seen_now (y ∷ ys) None = le-leb y y (omega arith)
+seen_now (y ∷ ys) (Some x) = le-leb (min x y) y (omega arith)
+
+seen_still : (l : List ℕ) (f : Option ℕ) (k : List ℕ) → Seen f k → Seen (lesser_of l f) k
+unfolding Seen lesser_of not_after
 seen_still [] f k h = h
-seen_still (y ∷ ys) f k h = by f.some (leb f.id y) refl refl
-  where
-    by : (s t : Bool) → f.some ≡ s → leb f.id y ≡ t → Seen (cond (s && t) f (record { some = true; id = y })) k
-    by true true p q = h
-    by true false p q = record { none = λ e. absurd (true≢false e); low = λ e. after_less f.id y k (h.low p) (omega (arith, leb-false f.id y q)) }
-    by false t p q = record { none = λ e. absurd (true≢false e); low = λ e. rw (h.none p) }
+seen_still (y ∷ ys) None k h = rw h
+seen_still (y ∷ ys) (Some x) k h = after_less x (min x y) k h (omega arith)
 
-pub record AllSeen (f : Found) (m : ConfState) : Type 0 where
+pub record AllSeen (f : Option ℕ) (m : ConfState) : Type 0 where
   pub voters : Seen f m.voters
   pub learners : Seen f m.learners
   pub voters_outgoing : Seen f m.voters_outgoing
   pub learners_next : Seen f m.learners_next
 
-all-now : (m : ConfState) (f : Found) → AllSeen (least_of m f) m
+all-now : (m : ConfState) (f : Option ℕ) → AllSeen (least_of m f) m
 all-now m f =
     record {
       voters = seen_still m.learners_next h m.voters (seen_still m.learners g m.voters (seen_still m.voters_outgoing e m.voters (seen_now m.voters f)));
@@ -71,16 +66,16 @@ all-now m f =
       learners_next = seen_now m.learners_next h;
     }
   where
-    e : Found
+    e : Option ℕ
     e = lesser_of m.voters f
 
-    g : Found
+    g : Option ℕ
     g = lesser_of m.voters_outgoing e
 
-    h : Found
+    h : Option ℕ
     h = lesser_of m.learners g
 
-all_still : (m : ConfState) (f : Found) (n : ConfState) → AllSeen f n → AllSeen (least_of m f) n
+all_still : (m : ConfState) (f : Option ℕ) (n : ConfState) → AllSeen f n → AllSeen (least_of m f) n
 all_still m f n s =
     record {
       voters = one n.voters s.voters;
@@ -89,13 +84,13 @@ all_still m f n s =
       learners_next = one n.learners_next s.learners_next;
     }
   where
-    e : Found
+    e : Option ℕ
     e = lesser_of m.voters f
 
-    g : Found
+    g : Option ℕ
     g = lesser_of m.voters_outgoing e
 
-    h : Found
+    h : Option ℕ
     h = lesser_of m.learners g
 
     one : (k : List ℕ) → Seen f k → Seen (least_of m f) k
@@ -103,11 +98,11 @@ all_still m f n s =
 
 pub seen_first : (a b : ConfState) → AllSeen (next_of a b) a
 unfolding next_of
-seen_first a b = all_still b (least_of a nothing) a (all-now a nothing)
+seen_first a b = all_still b (least_of a None) a (all-now a None)
 
 pub seen_second : (a b : ConfState) → AllSeen (next_of a b) b
 unfolding next_of
-seen_second a b = all-now b (least_of a nothing)
+seen_second a b = all-now b (least_of a None)
 
 -- ** The first of one
 
@@ -120,19 +115,17 @@ or_first true q h = refl
 or_first false q h = absurd (false≢true h)
 
 -- what was found, if something was, is one of which q says yes
-unfoldable Met : (ℕ → Bool) → Found → Type 0
-Met q f = f.some ≡ true → q f.id ≡ true
+unfoldable Met : (ℕ → Bool) → Option ℕ → Type 0
+Met q None = Unit {0}
+Met q (Some x) = q x ≡ true
 
-met_one : (q : ℕ → Bool) (l : List ℕ) (f : Found) → Met q f → ((y : ℕ) → first_is y l ≡ true → q y ≡ true) → Met q (lesser_of l f)
+met_one : (q : ℕ → Bool) (l : List ℕ) (f : Option ℕ) → Met q f → ((y : ℕ) → first_is y l ≡ true → q y ≡ true) → Met q (lesser_of l f)
 unfolding Met lesser_of first_is
 met_one q [] f h k = h
-met_one q (y ∷ ys) f h k = by (f.some && leb f.id y)
-  where
-    by : (t : Bool) → Met q (cond t f (record { some = true; id = y }))
-    by true = h
-    by false = λ e. k y (eq-eqb y y refl)
+met_one q (y ∷ ys) None h k = k y (eq-eqb y y refl)
+met_one q (y ∷ ys) (Some x) h k = min_cases x y (q (min x y) ≡ true) (λ i e. rw e h) (λ i e. rw e (k y (eq-eqb y y refl)))
 
-met_all : (q : ℕ → Bool) (m : ConfState) (f : Found) → Met q f → ((y : ℕ) → any_of (firsts_of m y) ≡ true → q y ≡ true) → Met q (least_of m f)
+met_all : (q : ℕ → Bool) (m : ConfState) (f : Option ℕ) → Met q f → ((y : ℕ) → any_of (firsts_of m y) ≡ true → q y ≡ true) → Met q (least_of m f)
 unfolding firsts_of
 met_all q m f h k =
     met_one q m.learners_next (lesser_of m.learners (lesser_of m.voters_outgoing (lesser_of m.voters f)))
@@ -155,11 +148,17 @@ met_all q m f h k =
     n : ℕ → Bool
     n y = first_is y m.learners_next
 
-pub next-first : (a b : ConfState) → (next_of a b).some ≡ true → any_of (firsts_of a (next_of a b).id) || any_of (firsts_of b (next_of a b).id) ≡ true
+-- x is the first of a list of one of both
+abbrev pub first_of_one : ConfState → ConfState → ℕ → Bool
+first_of_one a b x = any_of (firsts_of a x) || any_of (firsts_of b x)
+
+next_met : (a b : ConfState) → Met (first_of_one a b) (next_of a b)
 unfolding Met next_of
-next-first a b =
-    met_all q b (least_of a nothing) (met_all q a nothing (λ e. absurd (false≢true e)) (λ y e. or_first (any_of (firsts_of a y)) (any_of (firsts_of b y)) e))
+next_met a b =
+    met_all (first_of_one a b) b (least_of a None)
+    (met_all (first_of_one a b) a None tt (λ y e. or_first (any_of (firsts_of a y)) (any_of (firsts_of b y)) e))
     (λ y e. or-true (any_of (firsts_of a y)) (any_of (firsts_of b y)) e)
-  where
-    q : ℕ → Bool
-    q y = any_of (firsts_of a y) || any_of (firsts_of b y)
+
+pub next-first : (a b : ConfState) (x : ℕ) → next_of a b ≡ Some x → first_of_one a b x ≡ true
+unfolding Met
+next-first a b x e = subst (Met (first_of_one a b)) e (next_met a b)

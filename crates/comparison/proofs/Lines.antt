@@ -1,7 +1,7 @@
 -- Laws of the lines' text. Assumes nothing.
 use Prim.Native.Nat.{ℕ}
 use mathlib.Core.Path.{◌≡◌, refl, ap, sym, ◌∙◌}
-use mathlib.Core.Bool.{Bool, true, false, beq, ◌||◌, cond}
+use mathlib.Core.Bool.{Bool, true, false, beq, ◌&&◌, ◌||◌, cond}
 use mathlib.Core.List.{List, [], ◌++◌}
 use Rattle.text.specs.Text.{each, ascii}
 use Rattle.comparison.specs.Compare.{same, standing_text, line, line_if, flag_line}
@@ -85,14 +85,26 @@ module _ (s : Standing) {third fourth any : Bool} (f : third ≡ (s.voters || s.
 
 -- ** The line of an id
 
-module _ (x : ℕ) (s t : Standing) {r : Bool} (h : r ≡ same s t) where
+-- as the derived equality says it
+abbrev equal : Standing → Standing → Bool
+equal s t = beq s.voters t.voters && (beq s.outgoing t.outgoing && (beq s.learners t.learners && beq s.next t.next))
+
+equal_same : (s t : Standing) → same s t ≡ equal s t
+equal_same s t = go (beq s.voters t.voters) (beq s.outgoing t.outgoing) (beq s.learners t.learners) (beq s.next t.next)
+  where
+    go : (a b c d : Bool) → a && b && c && d ≡ a && (b && (c && d))
+    go true true c d = refl
+    go true false c d = refl
+    go false b c d = refl
+
+module _ (x : ℕ) (s t : Standing) {r : Bool} (h : r ≡ equal s t) where
   pub line_none : r ≡ true → line_if x s t ≡ []
   unfolding line_if
-  line_none e = ap (λ (y : Bool). cond y [] (line x s t)) (sym h ∙ e)
+  line_none e = ap (λ (y : Bool). cond y [] (line x s t)) (equal_same s t ∙ (sym h ∙ e))
 
   pub line-some : r ≡ false → line_if x s t ≡ line x s t
   unfolding line_if
-  line-some e = ap (λ (y : Bool). cond y [] (line x s t)) (sym h ∙ e)
+  line-some e = ap (λ (y : Bool). cond y [] (line x s t)) (equal_same s t ∙ (sym h ∙ e))
 
 -- ** The line of the flag
 

@@ -26,3 +26,5 @@ module _ {ws : List ℕ} (l : Lists ws) where
   pub next-few : length (list_in ws 195) ≤ 64
   unfolding message_in
   next-few = l.few.learners_next
+
+pub ruleset few_in_each = (voters-few, learners-few, outgoing-few, next-few)

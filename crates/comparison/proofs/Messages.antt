@@ -1,26 +1,34 @@
 -- Laws of the two messages that are read, and of what is printed and answered of them. Assumes nothing.
 use Prim.Native.Nat.{ℕ, ◌+◌, ◌≤◌, ◌<◌}
 use mathlib.Core.Path.{◌≡◌, ap, sym, subst, ◌∙◌}
-use mathlib.Core.Bool.{Bool, true, false, ◌||◌, not, cond}
+use mathlib.Core.Bool.{Bool, true, false, cond}
 use mathlib.Core.List.{List, ◌++◌}
 use native.Mathlib.Omega.{arith}
 use borrow.Author.Tests.{leb-true, leb-false, lt-ltb, le-ltb, le-leb, eq-eqb, ne_eqb}
-use lib.Dec.{eqb, ltb, leb}
+use lib.Dec.{eqb, leb}
 use lib.ListN.{length, drop}
 use Rattle.rules.specs.State.{ConfState}
-use Rattle.rules.specs.Message.{Answered, accepted, cut_short, malformed, too_many, read, number_read, message_read}
-use Rattle.rules.proofs.Refusals.{accepted_or_named}
+use Rattle.rules.specs.Message.{read, number_read, message_read}
 use Rattle.text.specs.Put.{Put, last}
 use Rattle.text.proofs.Laws.{put_count, put_whole}
 use Rattle.confstate.specs.Words.{message_in}
 use Rattle.comparison.specs.Compare.{lines, lines_read, refusal, refused_text, comparison, compare_answer, compare_leaves}
 use Rattle.comparison.specs.Told.{as_sets}
-use Rattle.comparison.specs.Steps.{Sorted, Ascending, SetsRead, BothRead}
+use Rattle.comparison.specs.Steps.{Sorted, Ascending, number_of, SetsRead, BothRead}
+use Rattle.comparison.specs.declared.refusal.Refusal.{Refusal}
+use Rattle.comparison.specs.declared.refusal.Refusal.TheVariants.{CutShort, Malformed, TooMany, Unfit, NoRoom}
 use Rattle.comparison.proofs.Meaning.{sets-sorted}
 use Rattle.comparison.proofs.Size.{lines-size}
 use Rattle.comparison.proofs.Walking.{lines-of-sets}
 
 -- ** Both messages
+
+pub number-some : (r : Refusal) → number_of r ≡ 0 → ⊥
+number-some CutShort e = omega (arith, e)
+number-some Malformed e = omega (arith, e)
+number-some TooMany e = omega (arith, e)
+number-some Unfit e = omega (arith, e)
+number-some NoRoom e = omega (arith, e)
 
 -- 32
 module _ (readable : Bool) (l m : List ℕ) {x y : List ℕ} where
@@ -64,32 +72,10 @@ module _ (readable : Bool) (l m : List ℕ) (h : readable ≡ true) (j : length 
 
 -- ** What both readings leave
 
-number-few : (l : List ℕ) → number_read (read l) ≤ 30
-number-few l = by (accepted_or_named l)
-  where
-    by : Answered (number_read (read l)) → number_read (read l) ≤ 30
-    by (accepted h) = omega arith
-    by (cut_short h) = omega arith
-    by (malformed h) = omega arith
-    by (too_many h) = omega arith
-
-refusal-few : (readable : Bool) (l m : List ℕ) → refusal readable l m ≤ 32
-unfolding refusal
-refusal-few readable l m =
-    by (not readable || ltb 32768 (length l) || ltb 32768 (length m)) (eqb (number_read (read l)) 0)
-  where
-    by : (a b : Bool) → cond a 32 (cond b (number_read (read m)) (number_read (read l))) ≤ 32
-    by true b = omega arith
-    by false true = omega (arith, number-few m)
-    by false false = omega (arith, number-few l)
-
 ascends : {l ws : List ℕ} → SetsRead l 0 ws → Ascending ws
 ascends {l} f = record { lists = f.lists; sorted = subst Sorted (sym f.sets) (sets-sorted (message_read (read l))) }
 
 module _ {readable : Bool} {l m x y : List ℕ} {n : ℕ} (r : BothRead readable l m n x y) where
-  pub number_small : n ≤ 32
-  number_small = omega (arith, r.told, refusal-few readable l m)
-
   pub compared_refused : (n ≡ 0 → ⊥) → comparison readable l m ≡ refused_text n
   unfolding comparison
   compared_refused h = rw (← r.told, ne_eqb n 0 h)

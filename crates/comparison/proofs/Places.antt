@@ -1,11 +1,12 @@
 -- Laws of a walk: the list that stands at a place of the words, what is left of it, and the ids as they are met. Assumes nothing.
-use Prim.Native.Nat.{ℕ, ◌+◌, ◌-◌, ◌≤◌, ◌<◌}
+use Prim.Native.Nat.{ℕ, ◌+◌, ◌-◌, ◌≤◌, ◌<◌, min}
+use Rattle.std.specs.Prelude.{Option, Some, None}
+use Rattle.std.specs.Int.{from_bool}
 use mathlib.Core.Path.{◌≡◌, refl, ap, sym, subst, ◌∙◌}
-use mathlib.Core.Bool.{Bool, true, false, ◌&&◌, cond, false≢true}
+use mathlib.Core.Bool.{Bool, true, false, cond, false≢true}
 use mathlib.Core.List.{List, [], ◌∷◌, ◌++◌}
 use native.Mathlib.Omega.{arith}
-use borrow.Author.Tests.{le-leb, lt-leb}
-use lib.Dec.{eqb, leb}
+use lib.Dec.{eqb}
 use lib.ListN.{length, take, drop, get_or, length-drop}
 use lib.Seq.{take-take, get_or-drop, drop-drop}
 use Rattle.rules.specs.State.{ConfState}
@@ -18,7 +19,6 @@ use Rattle.comparison.specs.Compare.{line_if, id_lines}
 use Rattle.comparison.specs.Steps.{Lists, Sorted, Ascending, begin, left_of, lesser_of, next_of, firsts_of, one_of, past_of, Within}
 use Rattle.comparison.specs.declared.line.Standing.{Standing}
 use Rattle.comparison.specs.declared.walk.Places.{Places}
-use Rattle.comparison.specs.declared.walk.Found.{Found}
 use Rattle.comparison.proofs.Walking.{past_first, past_id, size, past-sorted, none_left, one_more_lem, one_stands}
 use Rattle.comparison.proofs.ListWords.{count-few}
 
@@ -44,31 +44,35 @@ module _ (ws : List ℕ) (k : ℕ) (h : k + 65 ≤ length ws) (f : length (list_
         part_cons (get_or ws (k + 64) 0) (drop k ws) at e (omega (arith, count-few ws k h f, length-drop k ws))
         ∙ ap (λ (x : ℕ). x ∷ drop (at + 1) (take (get_or ws (k + 64) 0) (drop k ws))) (get_or-drop k ws at 0)
 
-    module _ (found : Found) where
-      pub lesser_end : get_or ws (k + 64) 0 ≤ at → found ≡ lesser_of (drop at (list_in ws k)) found
+    pub lesser_end : (found : Option ℕ) → get_or ws (k + 64) 0 ≤ at → found ≡ lesser_of (drop at (list_in ws k)) found
+    unfolding lesser_of
+    lesser_end found e = sym (ap (λ (l : List ℕ). lesser_of l found) (list_end e))
+
+    module _ (e : at < get_or ws (k + 64) 0) where
+      pub lesser_first : {found : Option ℕ} → found ≡ None → Some (get_or ws (k + at) 0) ≡ lesser_of (drop at (list_in ws k)) found
       unfolding lesser_of
-      lesser_end e = sym (ap (λ (l : List ℕ). lesser_of l found) (list_end e))
+      lesser_first n = rw (n, list_here e)
 
-      module _ (e : at < get_or ws (k + 64) 0) where
-        met : lesser_of (drop at (list_in ws k)) found
-            ≡ cond (found.some && leb found.id (get_or ws (k + at) 0)) found (record { some = true; id = get_or ws (k + at) 0 })
-        unfolding lesser_of
-        met = ap (λ (l : List ℕ). lesser_of l found) (list_here e)
-
-        pub lesser_kept : found.some ≡ true → found.id ≤ get_or ws (k + at) 0 → found ≡ lesser_of (drop at (list_in ws k)) found
-        lesser_kept s i = sym (met ∙ rw (s, le-leb found.id (get_or ws (k + at) 0) i))
-
-        pub lesser_less : found.some ≡ true → get_or ws (k + at) 0 < found.id → ◌≡◌ {A = Found} (record { some = true; id = get_or ws (k + at) 0 }) (lesser_of (drop at (list_in ws k)) found)
-        lesser_less s i = sym (met ∙ rw (s, lt-leb found.id (get_or ws (k + at) 0) i))
-
-        pub lesser_first : found.some ≡ false → ◌≡◌ {A = Found} (record { some = true; id = get_or ws (k + at) 0 }) (lesser_of (drop at (list_in ws k)) found)
-        lesser_first s = sym (met ∙ rw s)
+      pub lesser_met : {found : Option ℕ} {x : ℕ} → found ≡ Some x → Some (min x (get_or ws (k + at) 0)) ≡ lesser_of (drop at (list_in ws k)) found
+      unfolding lesser_of
+      lesser_met s = rw (s, list_here e)
 
 -- ** Past an id
 
-pub one-few : (b : Bool) → one_of b ≤ 1
-one-few true = omega arith
-one-few false = omega arith
+byte_one : (b : Bool) → from_bool b ≡ one_of b
+byte_one true = refl
+byte_one false = refl
+
+pub past_made : (p : Places) (s : Standing) {a b c d : ℕ} → a ≡ from_bool s.voters → b ≡ from_bool s.outgoing → c ≡ from_bool s.learners → d ≡ from_bool s.next
+    → ◌≡◌ {A = Places} (record { voters = p.voters + a; outgoing = p.outgoing + b; learners = p.learners + c; next = p.next + d }) (past_of p s)
+unfolding past_of
+past_made p s e f g h =
+    λ i. record {
+      voters = p.voters + (e ∙ byte_one s.voters) i;
+      outgoing = p.outgoing + (f ∙ byte_one s.outgoing) i;
+      learners = p.learners + (g ∙ byte_one s.learners) i;
+      next = p.next + (h ∙ byte_one s.next) i;
+    }
 
 drop-first : (x : ℕ) (l : List ℕ) → drop (one_of (first_is x l)) l ≡ past_first x l
 unfolding first_is past_first
@@ -125,13 +129,12 @@ past-within ws p x l w =
 -- ** The loop over the ids
 
 -- the lines of what is left from i and j on are all that is left to put
-pub record Walked (a b old : List ℕ) (at : ℕ) (out : List ℕ) (end : ℕ) (i j : Places) (next : Found) : Type 0 where
+pub record Walked (a b old : List ℕ) (at : ℕ) (out : List ℕ) (end : ℕ) (i j : Places) : Type 0 where
   pub lines : Rest old at (id_lines (message_in a) (message_in b)) out end (id_lines (left_of a i) (left_of b j))
   pub first : Sorted (left_of a i)
   pub second : Sorted (left_of b j)
   pub first-place : Within i
   pub second-place : Within j
-  pub met : next ≡ next_of (left_of a i) (left_of b j)
 
 -- how many places are left
 abbrev pub left : List ℕ → List ℕ → Places → Places → ℕ
@@ -140,8 +143,8 @@ left a b i j = size (left_of a i) + size (left_of b j)
 begin-within : Within begin
 begin-within = record { voters = omega arith; outgoing = omega arith; learners = omega arith; next = omega arith }
 
-pub walk_start : {a b old : List ℕ} {at : ℕ} {i j : Places} {next : Found} → length old ≤ last → at ≤ last → Ascending a → Ascending b → i ≡ begin → j ≡ begin → next ≡ next_of (left_of a i) (left_of b j) → Walked a b old at old at i j next
-walk_start {a} {b} {old} {at} {i} {j} h k f g p q e =
+pub walk_start : {a b old : List ℕ} {at : ℕ} {i j : Places} → length old ≤ last → at ≤ last → Ascending a → Ascending b → i ≡ begin → j ≡ begin → Walked a b old at old at i j
+walk_start {a} {b} {old} {at} {i} {j} h k f g p q =
     let u : left_of a i ≡ message_in a = ap (left_of a) p ∙ left-all a in
     let v : left_of b j ≡ message_in b = ap (left_of b) q ∙ left-all b in
     record {
@@ -151,45 +154,36 @@ walk_start {a} {b} {old} {at} {i} {j} h k f g p q e =
       second = subst Sorted (sym v) g.sorted;
       first-place = subst Within (sym p) begin-within;
       second-place = subst Within (sym q) begin-within;
-      met = e;
     }
 
-module _ {a b old : List ℕ} {at : ℕ} {out : List ℕ} {end : ℕ} {i j : Places} {next : Found} (w : Walked a b old at out end i j next) where
+module _ {a b old : List ℕ} {at : ℕ} {out : List ℕ} {end : ℕ} {i j : Places} (w : Walked a b old at out end i j) where
   pub walk_length : length out ≡ length old
   walk_length = rest-length w.lines
 
-  pub walk_end : next.some ≡ false → Put old at (id_lines (message_in a) (message_in b)) out end
-  walk_end h =
-      let none : (next_of (left_of a i) (left_of b j)).some ≡ false = sym (ap (λ (f : Found). f.some) w.met) ∙ h in
+  pub walk_end : next_of (left_of a i) (left_of b j) ≡ None → Put old at (id_lines (message_in a) (message_in b)) out end
+  walk_end none =
       rest_none (subst (Rest old at (id_lines (message_in a) (message_in b)) out end) (none_left (left_of a i) (left_of b j) none) w.lines)
 
   -- the id that was met stands in these sets, and the walk goes past it
-  module _ (some : next.some ≡ true) {s t : Standing} (f : s ≡ firsts_of (left_of a i) next.id) (g : t ≡ firsts_of (left_of b j) next.id) {k l : Places} (p : k ≡ past_of i s) (q : l ≡ past_of j t) where
-    met_some : (next_of (left_of a i) (left_of b j)).some ≡ true
-    met_some = sym (ap (λ (m : Found). m.some) w.met) ∙ some
+  module _ {x : ℕ} (met : next_of (left_of a i) (left_of b j) ≡ Some x) {s t : Standing} (f : s ≡ firsts_of (left_of a i) x) (g : t ≡ firsts_of (left_of b j) x) {k l : Places} (p : k ≡ past_of i s) (q : l ≡ past_of j t) where
+    first-left : left_of a k ≡ past_id x (left_of a i)
+    first-left = ap (left_of a) (p ∙ ap (past_of i) f) ∙ left-past a i x
 
-    met_id : next.id ≡ (next_of (left_of a i) (left_of b j)).id
-    met_id = ap (λ (m : Found). m.id) w.met
-
-    first-left : left_of a k ≡ past_id next.id (left_of a i)
-    first-left = ap (left_of a) (p ∙ ap (past_of i) f) ∙ left-past a i next.id
-
-    second-left : left_of b l ≡ past_id next.id (left_of b j)
-    second-left = ap (left_of b) (q ∙ ap (past_of j) g) ∙ left-past b j next.id
+    second-left : left_of b l ≡ past_id x (left_of b j)
+    second-left = ap (left_of b) (q ∙ ap (past_of j) g) ∙ left-past b j x
 
     pub walk_less : left a b k l < left a b i j
-    walk_less = rw (first-left, second-left, met_id) (one_stands (left_of a i) (left_of b j) met_some)
+    walk_less = rw (first-left, second-left) (one_stands (left_of a i) (left_of b j) x met)
 
-    more : id_lines (left_of a i) (left_of b j) ≡ line_if next.id s t ++ id_lines (left_of a k) (left_of b l)
-    more = rw (first-left, second-left, f, g, met_id) (one_more_lem (left_of a i) (left_of b j) w.first w.second met_some)
+    more : id_lines (left_of a i) (left_of b j) ≡ line_if x s t ++ id_lines (left_of a k) (left_of b l)
+    more = rw (first-left, second-left, f, g) (one_more_lem (left_of a i) (left_of b j) w.first w.second x met)
 
-    pub walk_turn : Lists a → Lists b → {new : List ℕ} {r : ℕ} {after : Found} → Put out end (line_if next.id s t) new r → after ≡ next_of (left_of a k) (left_of b l) → Walked a b old at new r k l after
-    walk_turn x y h e =
+    pub walk_turn : Lists a → Lists b → {new : List ℕ} {r : ℕ} → Put out end (line_if x s t) new r → Walked a b old at new r k l
+    walk_turn y z h =
         record {
           lines = rest_put (subst (Rest old at (id_lines (message_in a) (message_in b)) out end) more w.lines) h;
-          first = subst Sorted (sym first-left) (past-sorted next.id (left_of a i) w.first);
-          second = subst Sorted (sym second-left) (past-sorted next.id (left_of b j) w.second);
-          first-place = subst Within (sym (p ∙ ap (past_of i) f)) (past-within a i next.id x w.first-place);
-          second-place = subst Within (sym (q ∙ ap (past_of j) g)) (past-within b j next.id y w.second-place);
-          met = e;
+          first = subst Sorted (sym first-left) (past-sorted x (left_of a i) w.first);
+          second = subst Sorted (sym second-left) (past-sorted x (left_of b j) w.second);
+          first-place = subst Within (sym (p ∙ ap (past_of i) f)) (past-within a i x y w.first-place);
+          second-place = subst Within (sym (q ∙ ap (past_of j) g)) (past-within b j x z w.second-place);
         }

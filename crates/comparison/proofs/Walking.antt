@@ -1,5 +1,6 @@
 -- Two messages whose lists ascend, walked side by side: the line of the next id, and then those of what is left. Assumes nothing.
 use Prim.Native.Nat.{ℕ, ◌+◌, ◌≤◌, ◌<◌}
+use Rattle.std.specs.Prelude.{Option, Some, None}
 use mathlib.Core.Path.{◌≡◌, refl, ap, sym, ◌∙◌}
 use mathlib.Core.Bool.{Bool, true, false, ◌||◌, cond, true≢false, false≢true}
 use mathlib.Core.List.{List, [], ◌∷◌, ◌++◌}
@@ -16,7 +17,7 @@ use Rattle.comparison.specs.Compare.{standing, line_if, line_of, ids_of, ids_of_
 use Rattle.comparison.specs.Told.{sets, as_sets}
 use Rattle.comparison.specs.Steps.{Sorted, next_of, firsts_of, one_of}
 use Rattle.comparison.specs.declared.line.Standing.{Standing}
-use Rattle.comparison.proofs.Firsts.{not_after, AllSeen, seen_first, seen_second, any_of, next-first}
+use Rattle.comparison.proofs.Firsts.{not_after, AllSeen, seen-none, seen-some, seen_first, seen_second, any_of, next-first}
 use Rattle.comparison.proofs.Meaning.{or_none, memb_append, every_id, ids_ascend, standing-sets}
 
 -- ** What is left
@@ -57,18 +58,18 @@ past-sorted x m s =
 
 -- ** The end
 
-pub none_left : (a b : ConfState) → (next_of a b).some ≡ false → id_lines a b ≡ []
+pub none_left : (a b : ConfState) → next_of a b ≡ None → id_lines a b ≡ []
 unfolding ids_of_both insert_all each
 none_left a b e =
     rw (
-      s.voters.none e,
-      s.voters_outgoing.none e,
-      s.learners.none e,
-      s.learners_next.none e,
-      t.voters.none e,
-      t.voters_outgoing.none e,
-      t.learners.none e,
-      t.learners_next.none e,
+      seen-none a.voters e s.voters,
+      seen-none a.voters_outgoing e s.voters_outgoing,
+      seen-none a.learners e s.learners,
+      seen-none a.learners_next e s.learners_next,
+      seen-none b.voters e t.voters,
+      seen-none b.voters_outgoing e t.voters_outgoing,
+      seen-none b.learners e t.learners,
+      seen-none b.learners_next e t.learners_next,
     )
   where
     s : AllSeen (next_of a b) a
@@ -230,21 +231,18 @@ module _ (a b : ConfState) (s : Sorted a) (t : Sorted b) (x : ℕ) (h : NotAfter
   unfolding each rest
   lines_next = rw (ids_next, firsts_stand x a s h, firsts_stand x b t k, lines_rest)
 
-low : (a b m : ConfState) → AllSeen (next_of a b) m → (next_of a b).some ≡ true → NotAfter (next_of a b).id m
-low a b m s e =
+low : (m : ConfState) {f : Option ℕ} {x : ℕ} → f ≡ Some x → AllSeen f m → NotAfter x m
+low m e s =
     record {
-      voters = s.voters.low e;
-      learners = s.learners.low e;
-      voters_outgoing = s.voters_outgoing.low e;
-      learners_next = s.learners_next.low e;
+      voters = seen-some m.voters e s.voters;
+      learners = seen-some m.learners e s.learners;
+      voters_outgoing = seen-some m.voters_outgoing e s.voters_outgoing;
+      learners_next = seen-some m.learners_next e s.learners_next;
     }
 
-pub one_more_lem : (a b : ConfState) → Sorted a → Sorted b → (next_of a b).some ≡ true
-    → id_lines a b
-    ≡ line_if (next_of a b).id (firsts_of a (next_of a b).id) (firsts_of b (next_of a b).id)
-    ++ id_lines (past_id (next_of a b).id a) (past_id (next_of a b).id b)
-one_more_lem a b s t e =
-    lines_next a b s t (next_of a b).id (low a b a (seen_first a b) e) (low a b b (seen_second a b) e) (next-first a b e)
+pub one_more_lem : (a b : ConfState) → Sorted a → Sorted b → (x : ℕ) → next_of a b ≡ Some x
+    → id_lines a b ≡ line_if x (firsts_of a x) (firsts_of b x) ++ id_lines (past_id x a) (past_id x b)
+one_more_lem a b s t x e = lines_next a b s t x (low a e (seen_first a b)) (low b e (seen_second a b)) (next-first a b x e)
 
 -- ** The walk ends
 
@@ -283,14 +281,8 @@ count-some s t = by s.voters s.outgoing s.learners s.next t.voters t.outgoing t.
     by false false false false false false false true k = omega arith
     by false false false false false false false false k = absurd (false≢true k)
 
-pub one_stands : (a b : ConfState) → (next_of a b).some ≡ true → size (past_id (next_of a b).id a) + size (past_id (next_of a b).id b) < size a + size b
-one_stands a b e =
-    omega (
-      arith,
-      past-size (next_of a b).id a,
-      past-size (next_of a b).id b,
-      count-some (firsts_of a (next_of a b).id) (firsts_of b (next_of a b).id) (next-first a b e),
-    )
+pub one_stands : (a b : ConfState) (x : ℕ) → next_of a b ≡ Some x → size (past_id x a) + size (past_id x b) < size a + size b
+one_stands a b x e = omega (arith, past-size x a, past-size x b, count-some (firsts_of a x) (firsts_of b x) (next-first a b x e))
 
 -- ** Sets
 

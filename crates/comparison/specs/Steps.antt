@@ -1,5 +1,5 @@
 -- What the functions under the comparison give. Assumes nothing.
-use Rattle.std.specs.Prelude.{ℕ, ◌+◌, ◌≤◌, ◌≡◌, Bool, true, false, ◌&&◌, cond, List, [], ◌∷◌, ◌++◌, leb, length, take, drop}
+use Rattle.std.specs.Prelude.{ℕ, ◌+◌, ◌≤◌, ◌≡◌, Bool, true, cond, List, [], ◌∷◌, ◌++◌, min, length, take, drop, ◌^◌, Option, Some, None, Result, Ok, Err}
 use Rattle.rules.specs.Ids.{ascending}
 use Rattle.rules.specs.State.{ConfState}
 use Rattle.rules.specs.Message.{Few64, read, number_read, message_read}
@@ -9,8 +9,9 @@ use Rattle.confstate.specs.Words.{message_in}
 use Rattle.comparison.specs.Compare.{refusal}
 use Rattle.comparison.specs.Told.{as_sets}
 use Rattle.comparison.specs.declared.line.Standing.{Standing}
+use Rattle.comparison.specs.declared.refusal.Refusal.{Refusal}
+use Rattle.comparison.specs.declared.refusal.Refusal.TheVariants.{CutShort, Malformed, TooMany, Unfit, NoRoom}
 use Rattle.comparison.specs.declared.walk.Places.{Places}
-use Rattle.comparison.specs.declared.walk.Found.{Found}
 
 -- ** Lists in order
 
@@ -36,6 +37,26 @@ pub record Placed (old : List ℕ) (n : ℕ) (new : List ℕ) (r : ℕ) (xs : Li
   pub count : r ≡ length xs
   pub ids : take r new ≡ xs
   pub rest : drop (n + 1) new ≡ drop (n + 1) old
+
+-- ** Refusals
+
+-- the number of a refusal
+abbrev pub number_of : Refusal → ℕ
+number_of CutShort = 28
+number_of Malformed = 29
+number_of TooMany = 30
+number_of Unfit = 32
+number_of NoRoom = 100
+
+-- 0, or the number of the refusal
+abbrev pub told_by : {A : Type 0} → Result A Refusal → ℕ
+told_by (Ok x) = 0
+told_by (Err r) = number_of r
+
+-- a length, or 2^32 and the number of the refusal
+abbrev pub answered : Result ℕ Refusal → ℕ
+answered (Ok n) = n
+answered (Err r) = 2 ^ 32 + number_of r
 
 -- ** Messages
 
@@ -68,15 +89,16 @@ left_of ws p =
     }
 
 -- what was found, or the first of a list where that is less
-unfoldable pub lesser_of : List ℕ → Found → Found
+unfoldable pub lesser_of : List ℕ → Option ℕ → Option ℕ
 lesser_of [] f = f
-lesser_of (x ∷ xs) f = cond (f.some && leb f.id x) f (record { some = true; id = x })
+lesser_of (x ∷ xs) None = Some x
+lesser_of (x ∷ xs) (Some y) = Some (min y x)
 
-abbrev pub least_of : ConfState → Found → Found
+abbrev pub least_of : ConfState → Option ℕ → Option ℕ
 least_of m f = lesser_of m.learners_next (lesser_of m.learners (lesser_of m.voters_outgoing (lesser_of m.voters f)))
 
-unfoldable pub next_of : ConfState → ConfState → Found
-next_of a b = least_of b (least_of a (record { some = false; id = 0 }))
+unfoldable pub next_of : ConfState → ConfState → Option ℕ
+next_of a b = least_of b (least_of a None)
 
 -- the lists that begin with x
 unfoldable pub firsts_of : ConfState → ℕ → Standing

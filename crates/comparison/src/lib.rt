@@ -6,11 +6,15 @@ ghost use Rattle.std.specs.Prelude.{◌≡◌, leb, length};
 ghost use Rattle.text.specs.Put.{Put};
 ghost use Rattle.confstate.specs.Words.{message_in};
 ghost use Rattle.comparison.specs.Compare.{id_lines, lines, refused_text, comparison, compare_answer, compare_leaves};
-ghost use Rattle.comparison.specs.Steps.{Ascending, SetsRead, BothRead};
+ghost use Rattle.comparison.specs.Steps.{Ascending, SetsRead, BothRead, number_of, told_by, answered};
 
+mod refusal; // why there are no lines
 mod sets; // lists put in order
 mod walk; // the ids of both messages, one after the other
 mod line; // the text of a line
+
+use refusal::Refusal;
+use walk::Walk;
 
 // The most bytes that a file has.
 pub const MAX_FILE: usize = 32768;
@@ -18,13 +22,8 @@ pub const MAX_FILE: usize = 32768;
 // The most bytes that are printed: 512 ids of 20 digits, each in one list of one message, and the flag.
 pub const LONGEST: usize = 20761;
 
-// The refusal of a file that could not be read or is too long.
-const UNFIT: u64 = 32;
-
-// What `compare` answers more than a refusal's number, and its answer for lines longer than the output.
+// What `compare` answers more than a refusal's number.
 const REFUSED: u64 = 4294967296;
-
-const NO_ROOM: u64 = REFUSED + 100;
 
 // What is printed of two files, `readable` saying whether both could be read: `refused N`, or the lines. As far as `out` goes from `at` on; the place
 // where it ends comes back.
@@ -39,11 +38,10 @@ pub fn put_comparison(
 {
     let mut a = [0u64; confstate::WORDS];
     let mut b = [0u64; confstate::WORDS];
-    let number = read_both(readable, first, second, &mut a, &mut b);
-    if number != 0 {
-        return put_refused(out, at, number);
+    match read_both(readable, first, second, &mut a, &mut b) {
+        Ok(()) => put_lines(out, at, &a, &b),
+        Err(refusal) => put_refused(out, at, refusal),
     }
-    put_lines(out, at, &a, &b)
 }
 
 // The lines of two messages to the front of `out`, every byte after them kept; their length comes back. 2^32 and 32 for a slice over 32 KiB, or 28, 29 or
@@ -51,17 +49,23 @@ pub fn put_comparison(
 pub fn compare(first: &[u8], second: &[u8], out: &mut [u8]) -> u64
     ensures { (result ≡ compare_answer first.now second.now (length out.old)) × (out.new ≡ compare_leaves first.now second.now out.old) }
 {
+    match put_compared(first, second, out) {
+        Ok(length) => length as u64,
+        Err(refusal) => REFUSED + refusal.number(),
+    }
+}
+
+// The lines of two messages to the front of `out`, where they have room; their length.
+fn put_compared(first: &[u8], second: &[u8], out: &mut [u8]) -> Result<usize, Refusal>
+    ensures { (answered result ≡ compare_answer first.now second.now (length out.old)) × (out.new ≡ compare_leaves first.now second.now out.old) }
+{
     let mut a = [0u64; confstate::WORDS];
     let mut b = [0u64; confstate::WORDS];
-    let number = read_both(true, first, second, &mut a, &mut b);
-    if number != 0 {
-        return REFUSED + number;
-    }
+    read_both(true, first, second, &mut a, &mut b)?;
     if !have_room(&a, &b, out.len()) {
-        return NO_ROOM;
+        return Err(Refusal::NoRoom);
     }
-    let n = put_lines(out, 0, &a, &b);
-    n as u64
+    Ok(put_lines(out, 0, &a, &b))
 }
 
 // Whether the lines of two messages have room: the longest that there can be, or these, which are then counted.
@@ -77,45 +81,42 @@ fn have_room(a: &[u64], b: &[u64], room: usize) -> bool
     n <= room
 }
 
-// Reads both messages, each list as a set: 0, or the refusal. 32 for either file comes before any fault in one of them.
-fn read_both(readable: bool, first: &[u8], second: &[u8], a: &mut [u64], b: &mut [u64]) -> u64
+// Reads both messages, each list as a set. A file that is not fit comes before any fault in one of them.
+fn read_both(
+    readable: bool,
+    first: &[u8],
+    second: &[u8],
+    a: &mut [u64],
+    b: &mut [u64],
+) -> Result<(), Refusal>
     requires { (length a.old ≡ 261) × (length b.old ≡ 261) }
-    ensures { BothRead readable first.now second.now result a.new b.new }
+    ensures { BothRead readable first.now second.now (told_by result) a.new b.new }
 {
-    if !readable {
-        return UNFIT;
-    }
     let first_long = MAX_FILE < first.len();
-    if first_long {
-        return UNFIT;
-    }
     let second_long = MAX_FILE < second.len();
-    if second_long {
-        return UNFIT;
+    if !readable || first_long || second_long {
+        return Err(Refusal::Unfit);
     }
-    let number = read_sets(first, a);
-    if number != 0 {
-        return number;
-    }
+    read_sets(first, a)?;
     read_sets(second, b)
 }
 
-// Reads a message, each list as a set: 0, or the refusal.
-fn read_sets(bytes: &[u8], words: &mut [u64]) -> u64
+// Reads a message, each list as a set.
+fn read_sets(bytes: &[u8], words: &mut [u64]) -> Result<(), Refusal>
     requires { length words.old ≡ 261 }
-    ensures { SetsRead bytes.now result words.new }
+    ensures { SetsRead bytes.now (told_by result) words.new }
 {
     let number = confstate::read::read(bytes, words);
     sets::sort_lists(words);
-    number
+    refusal::of_reader(number)
 }
 
 // `refused N`.
-fn put_refused(out: &mut [u8], at: usize, number: u64) -> usize
-    ensures { Put out.old at (refused_text number) out.new result }
+fn put_refused(out: &mut [u8], at: usize, refusal: Refusal) -> usize
+    ensures { Put out.old at (refused_text (number_of refusal)) out.new result }
 {
     let p = text::put_bytes(out, at, b"refused ");
-    let q = text::put_decimal(out, p, number);
+    let q = text::put_decimal(out, p, refusal.number());
     text::put_byte(out, q, b'\n')
 }
 
@@ -134,16 +135,14 @@ fn put_ids(out: &mut [u8], at: usize, a: &[u64], b: &[u64]) -> usize
     ensures { Put out.old at (id_lines (message_in a.now) (message_in b.now)) out.new result }
 {
     let mut end = at;
-    let mut i = walk::begin();
-    let mut j = walk::begin();
-    let mut next = walk::next_id(a, i, b, j);
-    while next.some {
-        let s = walk::sets_at(a, i, next.id);
-        let t = walk::sets_at(b, j, next.id);
-        end = line::put_id(out, end, next.id, s, t);
-        i = walk::past(i, s);
-        j = walk::past(j, t);
-        next = walk::next_id(a, i, b, j);
+    let mut first = Walk::new(a);
+    let mut second = Walk::new(b);
+    while let Some(id) = walk::next_id(&first, &second) {
+        let s = first.sets_at(id);
+        let t = second.sets_at(id);
+        end = line::put_id(out, end, id, s, t);
+        first.pass(s);
+        second.pass(t);
     }
     end
 }

@@ -1,11 +1,10 @@
 // The text of a line: document 02, l).
-ghost use Rattle.std.specs.Prelude.{◌≡◌};
 ghost use Rattle.text.specs.Put.{Put};
-ghost use Rattle.comparison.specs.Compare.{same as same_of, standing_text, line, line_if, flag_line};
+ghost use Rattle.comparison.specs.Compare.{standing_text, line, line_if, flag_line};
 ghost use Rattle.comparison.specs.Steps.{name_text};
 
 // The sets that an id is in.
-#[derive(Clone, Copy)]
+#[derive(Clone, Copy, PartialEq, Eq)]
 pub struct Standing {
     pub voters: bool,
     pub outgoing: bool,
@@ -17,16 +16,10 @@ pub struct Standing {
 pub fn put_id(out: &mut [u8], at: usize, id: u64, s: Standing, t: Standing) -> usize
     ensures { Put out.old at (line_if id s t) out.new result }
 {
-    if same(s, t) {
+    if s == t {
         return at;
     }
     put_line(out, at, id, s, t)
-}
-
-fn same(s: Standing, t: Standing) -> bool
-    ensures { result ≡ same_of s t }
-{
-    s.voters == t.voters && s.outgoing == t.outgoing && s.learners == t.learners && s.next == t.next
 }
 
 // `2 voters -> learners`.

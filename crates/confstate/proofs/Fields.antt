@@ -1,48 +1,59 @@
 -- Laws of one field: its number, and what it comes to. Assumes nothing.
-use Prim.Native.Nat.{ℕ, zero, suc, ◌+◌, ◌-◌, ◌*◌, ◌^◌, ◌≤◌, ◌<◌}
+use Prim.Native.Nat.{ℕ, zero, suc, ◌+◌, ◌-◌, ◌*◌, ◌≤◌, ◌<◌}
 use mathlib.Core.Path.{◌≡◌, refl, ap, sym, subst, ◌∙◌}
 use mathlib.Core.Bool.{Bool, true, false, not, cond}
 use mathlib.Core.List.{List, [], ◌∷◌, ◌++◌}
 use native.Mathlib.Omega.{arith}
-use borrow.Author.Tests.{lt-ltb, le-ltb, le-leb, lt-leb, ltb-true, ltb-false, ne_eqb, not-true, not-false}
-use lib.Dec.{eqb, ltb}
+use borrow.Author.Tests.{le-leb, lt-leb, ne_eqb, not-true, not-false}
+use lib.Dec.{eqb}
 use lib.ListN.{length, take, drop, get_or, set, length-append, length-drop}
 use lib.Seq.{drop-drop}
+use Rattle.std.specs.Prelude.{Result, Ok, Err, IsErrAnd}
 use Rattle.rules.specs.State.{ConfState}
 use Rattle.rules.specs.Wire.{Found, bad, found, Payload, varint, bytes, single, length_in, numbered, varint_in}
 use Rattle.rules.specs.Message.{Numbers, faulty, all, numbers, grown, packed, Read, taken, with_flag, listed, flagged, entered}
-use Rattle.wire.specs.Varints.{varint_at}
+use Rattle.wire.specs.Varints.{read_at}
+use Rattle.wire.specs.Varints as wire
 use Rattle.wire.specs.declared.Varint.{Varint}
+use Rattle.wire.specs.declared.Fault.{Fault}
+use Rattle.wire.specs.declared.Fault.TheVariants as faults
 use Rattle.wire.proofs.Found.{read-bad, read_found, found_within}
 use Rattle.confstate.specs.Words.{flag_word, list_words, conf_state_words, list_in, message_in}
-use Rattle.confstate.specs.Steps.{Holding, Listing, Grows, stop, Takes, closed, held_at, fixed_at}
-use Rattle.confstate.specs.declared.read.Taken.{Taken}
-use Rattle.confstate.proofs.Words.{counted, count_set, id-set, told, listed-count, list_back, listing, list_of, with_list, replaced, block_in, block_out, list_few, flag-set}
+use Rattle.confstate.specs.Steps.{Holding, Listing, Grows, stop, Takes, closed, held_at}
+use Rattle.confstate.specs.Refusals.{number_of, refusal_for, told}
+use Rattle.confstate.specs.declared.read.Refusal.{Refusal}
+use Rattle.confstate.specs.declared.read.Refusal.TheVariants.{CutShort, Malformed, LongList}
+use Rattle.confstate.proofs.Words.{counted, count_set, id-set, told as told-count, listed-count, list_back, listing, list_of, with_list, replaced, block_in, block_out, list_few, flag-set}
 
 -- ** Its number
-
-pub beyond : (n : ℕ) → (n ≡ 0 → ⊥) → ltb 536870911 n ≡ not (numbered n)
-beyond n h = by (ltb n (2 ^ 29)) refl
-  where
-    by : (t : Bool) → ltb n (2 ^ 29) ≡ t → ltb 536870911 n ≡ not (numbered n)
-    by true t = rw (ne_eqb _ _ h, t, le-ltb 536870911 n (omega (arith, ltb-true n (2 ^ 29) t)))
-    by false t = rw (ne_eqb _ _ h, t, lt-ltb 536870911 n (omega (arith, ltb-false n (2 ^ 29) t)))
 
 pub numbered-some : (f : ℕ) → numbered f ≡ true → 0 < f
 numbered-some zero e = let z : ◌≡◌ {A = ℕ} 0 1 = cc in absurd (omega arith)
 numbered-some (suc f) e = omega arith
 
+-- ** What is told of a refusal
+
+pub named : (d : Refusal) → number_of d ≡ 0 → ⊥
+named CutShort e = omega arith
+named Malformed e = omega arith
+named LongList e = omega arith
+
+-- what a `?` gives back
+pub given_back : {A E : Type 0} {r : Result A E} {d : E} → IsErrAnd r (λ e. e ≡ d) → r ≡ Err d
+given_back {r = Ok x} h = absurd h
+given_back {r = Err e} h = ap Err h
+
 -- ** A single number after a list
 
 module _ {ws : List ℕ} (k : Listing ws) (x : ℕ) where
-  pub single-full : 64 ≤ get_or ws 64 0 → Grows (grown (list_in ws 0) (all (x ∷ []))) 30 ws
+  pub single-full : 64 ≤ get_or ws 64 0 → Grows (grown (list_in ws 0) (all (x ∷ []))) (Err LongList) ws
   unfolding Grows
   single-full h =
       let e : grown (list_in ws 0) (all (x ∷ [])) ≡ faulty 30
       = rw (lt-leb (length (list_in ws 0 ++ (x ∷ []))) 64 (omega (arith, length-append (list_in ws 0) (x ∷ []), listed-count k))) in
-      subst (λ (r : Numbers). Grows r 30 ws) (sym e) refl
+      subst (λ (r : Numbers). Grows r (Err LongList) ws) (sym e) refl
 
-  pub single_more : get_or ws 64 0 < 64 → Grows (grown (list_in ws 0) (all (x ∷ []))) 0 (set (set ws (get_or ws 64 0) x) 64 (get_or ws 64 0 + 1))
+  pub single_more : get_or ws 64 0 < 64 → Grows (grown (list_in ws 0) (all (x ∷ []))) (Ok tt) (set (set ws (get_or ws 64 0) x) 64 (get_or ws 64 0 + 1))
   unfolding Grows list_words
   single_more h =
       let n : get_or ws 64 0 ≡ length (list_in ws 0) = listed-count k in
@@ -53,8 +64,8 @@ module _ {ws : List ℕ} (k : Listing ws) (x : ℕ) where
       = ap (λ (j : ℕ). set ws j x) n ∙ (ap (λ (l : List ℕ). set l (length (list_in ws 0)) x) k.words ∙ id-set (list_in ws 0) (length (list_in ws 0)) x few) in
       let b : set (set ws (get_or ws 64 0) x) 64 (get_or ws 64 0 + 1) ≡ list_words (list_in ws 0 ++ (x ∷ []))
       = ap (λ (l : List ℕ). set l 64 (get_or ws 64 0 + 1)) a
-      ∙ (count_set (list_in ws 0 ++ (x ∷ [])) (length (list_in ws 0)) (get_or ws 64 0 + 1) (omega arith) ∙ told (list_in ws 0 ++ (x ∷ [])) (sym long)) in
-      subst (λ (r : Numbers). Grows r 0 (set (set ws (get_or ws 64 0) x) 64 (get_or ws 64 0 + 1))) (sym e) (refl, b)
+      ∙ (count_set (list_in ws 0 ++ (x ∷ [])) (length (list_in ws 0)) (get_or ws 64 0 + 1) (omega arith) ∙ told-count (list_in ws 0 ++ (x ∷ [])) (sym long)) in
+      subst (λ (r : Numbers). Grows r (Ok tt) (set (set ws (get_or ws 64 0) x) 64 (get_or ws 64 0 + 1))) (sym e) (refl, b)
 
 -- ** A field taken in
 
@@ -89,50 +100,53 @@ module _ {ws : List ℕ} (k : Holding ws) where
   lent_list f n a b e =
       subst Listing (sym (ap (λ (j : ℕ). take j (drop (65 * (f - 1)) ws)) e ∙ lent f (numbered-some f a) b)) (listing (list_of f m) (list_few m k.few f))
 
-  pub list_taken : (f n q g : ℕ) (p : Payload) (new : List ℕ) → numbered f ≡ true → f < 5 → n ≡ 65
-      → Grows (grown (list_in (take n (drop (65 * (f - 1)) ws)) 0) (numbers p)) g new
-      → Takes (closed q (entered (record { number = f; payload = p }) m)) (record { fault = g; next = q }) (take (65 * (f - 1)) ws ++ (new ++ drop n (drop (65 * (f - 1)) ws)))
-  unfolding Grows Takes
-  list_taken f n q g p new a b e h =
-      by (grown (list_of f m) (numbers p)) refl
-      (subst (λ (l : List ℕ). Grows (grown l (numbers p)) g new)
-      (ap (λ (j : ℕ). list_in (take j (drop (65 * (f - 1)) ws)) 0) e ∙ (ap (λ (l : List ℕ). list_in l 0) (lent f (numbered-some f a) b) ∙ list_back (list_of f m) (list_few m k.few f))) h)
-    where
-      by : (x : Numbers) → grown (list_of f m) (numbers p) ≡ x → Grows x g new
-          → Takes (closed q (entered (record { number = f; payload = p }) m)) (record { fault = g; next = q }) (take (65 * (f - 1)) ws ++ (new ++ drop n (drop (65 * (f - 1)) ws)))
-      by (faulty d) z w =
-          subst (λ (r : Read). Takes (closed q r) (record { fault = g; next = q }) (take (65 * (f - 1)) ws ++ (new ++ drop n (drop (65 * (f - 1)) ws))))
-          (sym (entered_list f p m (numbered-some f a) b ∙ ap (listed (λ xs. with_list f xs m)) z)) w
-      by (all xs) z w =
-          let t : ◌≡◌ {A = Taken} (record { fault = g; next = q }) (record { fault = 0; next = q }) = (λ i. record { fault = w.0 i; next = q }) in
-          let u : take (65 * (f - 1)) ws ++ (new ++ drop n (drop (65 * (f - 1)) ws)) ≡ conf_state_words (with_list f xs m)
-          = ap (λ (j : ℕ). take (65 * (f - 1)) ws ++ (new ++ drop j (drop (65 * (f - 1)) ws))) e
-          ∙ (ap (λ (l : List ℕ). replaced (65 * (f - 1)) new l) k.words
-          ∙ (ap (λ (l : List ℕ). replaced (65 * (f - 1)) l (conf_state_words m)) w.1 ∙ block_out m k.few f xs (numbered-some f a) b)) in
-          subst (λ (r : Read). Takes (closed q r) (record { fault = g; next = q }) (take (65 * (f - 1)) ws ++ (new ++ drop n (drop (65 * (f - 1)) ws))))
-          (sym (entered_list f p m (numbered-some f a) b ∙ ap (listed (λ xs. with_list f xs m)) z)) (t, u)
+  -- the block after the numbers of a field were put, and what is told of them
+  module _ (f n q : ℕ) (p : Payload) (new : List ℕ) (r : Result (Unit {0}) Refusal) (a : numbered f ≡ true) (b : f < 5) (e : n ≡ 65)
+      (h : Grows (grown (list_in (take n (drop (65 * (f - 1)) ws)) 0) (numbers p)) r new) where
+    list-step : (t : Result ℕ Refusal) → told t ≡ told r → (told r ≡ 0 → t ≡ Ok q) → Takes (closed q (entered (record { number = f; payload = p }) m)) t (take (65 * (f - 1)) ws ++ (new ++ drop n (drop (65 * (f - 1)) ws)))
+    unfolding Grows Takes
+    list-step t same go =
+        by (grown (list_of f m) (numbers p)) refl
+        (subst (λ (l : List ℕ). Grows (grown l (numbers p)) r new)
+        (ap (λ (j : ℕ). list_in (take j (drop (65 * (f - 1)) ws)) 0) e ∙ (ap (λ (l : List ℕ). list_in l 0) (lent f (numbered-some f a) b) ∙ list_back (list_of f m) (list_few m k.few f))) h)
+      where
+        by : (x : Numbers) → grown (list_of f m) (numbers p) ≡ x → Grows x r new → Takes (closed q (entered (record { number = f; payload = p }) m)) t (take (65 * (f - 1)) ws ++ (new ++ drop n (drop (65 * (f - 1)) ws)))
+        by (faulty d) z w =
+            subst (λ (y : Read). Takes (closed q y) t (take (65 * (f - 1)) ws ++ (new ++ drop n (drop (65 * (f - 1)) ws)))) (sym (entered_list f p m (numbered-some f a) b ∙ ap (listed (λ xs. with_list f xs m)) z)) (same ∙ w)
+        by (all xs) z w =
+            let u : take (65 * (f - 1)) ws ++ (new ++ drop n (drop (65 * (f - 1)) ws)) ≡ conf_state_words (with_list f xs m)
+            = ap (λ (j : ℕ). take (65 * (f - 1)) ws ++ (new ++ drop j (drop (65 * (f - 1)) ws))) e
+            ∙ (ap (λ (l : List ℕ). replaced (65 * (f - 1)) new l) k.words
+            ∙ (ap (λ (l : List ℕ). replaced (65 * (f - 1)) l (conf_state_words m)) w.1 ∙ block_out m k.few f xs (numbered-some f a) b)) in
+            subst (λ (y : Read). Takes (closed q y) t (take (65 * (f - 1)) ws ++ (new ++ drop n (drop (65 * (f - 1)) ws)))) (sym (entered_list f p m (numbered-some f a) b ∙ ap (listed (λ xs. with_list f xs m)) z)) (go w.0, u)
 
-  pub unknown-taken : (f q : ℕ) (p : Payload) → 5 < f → Takes (closed q (entered (record { number = f; payload = p }) m)) (record { fault = 0; next = q }) ws
+    pub list_refused : {t : Result ℕ Refusal} {d : Refusal} → r ≡ Err d → t ≡ Err d → Takes (closed q (entered (record { number = f; payload = p }) m)) t (take (65 * (f - 1)) ws ++ (new ++ drop n (drop (65 * (f - 1)) ws)))
+    list_refused {t} {d} x y = list-step t (rw (x, y)) (λ z. absurd (named d (sym (ap told x) ∙ z)))
+
+    pub list_taken : {u : Unit {0}} → r ≡ Ok u → Takes (closed q (entered (record { number = f; payload = p }) m)) (Ok q) (take (65 * (f - 1)) ws ++ (new ++ drop n (drop (65 * (f - 1)) ws)))
+    list_taken x = list-step (Ok q) (sym (ap told x)) (λ z. refl)
+
+  pub unknown-taken : (f q : ℕ) (p : Payload) → 5 < f → Takes (closed q (entered (record { number = f; payload = p }) m)) (Ok q) ws
   unfolding Takes
   unknown-taken f q p h =
-      subst (λ (r : Read). Takes (closed q r) (record { fault = 0; next = q }) ws) (sym (entered-unknown f p m h)) (refl, k.words)
+      subst (λ (r : Read). Takes (closed q r) (Ok q) ws) (sym (entered-unknown f p m h)) (refl, k.words)
 
   pub flag-taken : (f q v w : ℕ) → f ≡ 5 → w ≡ flag_word (not (eqb v 0))
-      → Takes (closed q (entered (record { number = f; payload = varint v }) m)) (record { fault = 0; next = q }) (set ws 260 w)
+      → Takes (closed q (entered (record { number = f; payload = varint v }) m)) (Ok q) (set ws 260 w)
   unfolding Takes
   flag-taken f q v w h e =
       let u : set ws 260 w ≡ conf_state_words (with_flag (not (eqb v 0)) m)
       = ap (λ (j : ℕ). set ws 260 j) e ∙ (ap (λ (l : List ℕ). set l 260 (flag_word (not (eqb v 0)))) k.words ∙ flag-set m k.few (not (eqb v 0))) in
-      subst (λ (r : Read). Takes (closed q r) (record { fault = 0; next = q }) (set ws 260 w)) (sym (entered-flag f (varint v) m h)) (refl, u)
+      subst (λ (r : Read). Takes (closed q r) (Ok q) (set ws 260 w)) (sym (entered-flag f (varint v) m h)) (refl, u)
 
 -- ** A field whose payload was looked for at q
 
-module _ (q f : ℕ) (w : ConfState) (t : Taken) (ws : List ℕ) {x : Found Payload} where
-  pub held-bad : {e : ℕ} → x ≡ bad e → t.fault ≡ e → Takes (held_at q f w x) t ws
+module _ (q f : ℕ) (w : ConfState) (t : Result ℕ Refusal) (ws : List ℕ) {x : Found Payload} where
+  pub held-bad : {e : ℕ} → x ≡ bad e → told t ≡ e → Takes (held_at q f w x) t ws
   unfolding Takes
   held-bad h g = subst (λ (y : Found Payload). Takes (held_at q f w y) t ws) (sym h) g
 
-  pub held_29 : {p : Payload} {n : ℕ} → x ≡ found p n → numbered f ≡ false → t.fault ≡ 29 → Takes (held_at q f w x) t ws
+  pub held_29 : {p : Payload} {n : ℕ} → x ≡ found p n → numbered f ≡ false → told t ≡ 29 → Takes (held_at q f w x) t ws
   unfolding Takes
   held_29 {p} {n} h b g =
       subst (λ (y : Found Payload). Takes (held_at q f w y) t ws) (sym h)
@@ -150,56 +164,58 @@ misnumbered_yes f e h = not-true (numbered f) (sym e ∙ h)
 pub misnumbered_no : (f : ℕ) {b : Bool} → b ≡ not (numbered f) → b ≡ false → numbered f ≡ true
 misnumbered_no f e h = not-false (numbered f) (sym e ∙ h)
 
-pub misnumbered_some : (f : ℕ) {b : Bool} → b ≡ not (numbered f) → b ≡ false → 0 < f
-misnumbered_some f e h = numbered-some f (misnumbered_no f e h)
-
 pub past_5 : {f : ℕ} → 5 ≤ f → (f ≡ 5 → ⊥) → 5 < f
 past_5 h g = omega arith
 
-pub fault-of : {t : Taken} {e : ℕ} → t ≡ record { fault = e; next = 0 } → t.fault ≡ e
-fault-of h = ap (λ (y : Taken). y.fault) h
+-- a number's fault has its refusal's number
+pub fault-number : (d : Fault) → number_of (refusal_for d) ≡ wire.number_of d
+fault-number faults.CutShort = refl
+fault-number (faults.Malformed n) = refl
+
+pub bad-told : {t : Result ℕ Refusal} (d : Fault) → t ≡ Err (refusal_for d) → told t ≡ wire.number_of d
+bad-told d g = ap told g ∙ fault-number d
 
 -- ** A varint
 
-module _ (l : List ℕ) (q f : ℕ) (w : ConfState) {v : Varint} (e : v ≡ varint_at l q) where
-  pub varint-bad : (t : Taken) (ws : List ℕ) → (v.fault ≡ 0 → ⊥) → t ≡ record { fault = v.fault; next = 0 } → Takes (held_at q f w (single (varint_in (drop q l)))) t ws
-  varint-bad t ws h g = held-bad q f w t ws (ap single (read-bad l q e h)) (fault-of g)
+module _ (l : List ℕ) (q f : ℕ) (w : ConfState) {x : Result Varint Fault} (e : x ≡ read_at l q) where
+  pub varint-bad : (t : Result ℕ Refusal) (ws : List ℕ) {d : Fault} → x ≡ Err d → t ≡ Err (refusal_for d) → Takes (held_at q f w (single (varint_in (drop q l)))) t ws
+  varint-bad t ws {d} h g = held-bad q f w t ws (ap single (read-bad l q (sym h ∙ e))) (bad-told d g)
 
-  module _ (h : v.fault ≡ 0) where
-    at-varint : single (varint_in (drop q l)) ≡ found (varint v.value) (read_found l q e h).0
-    at-varint = ap single (read_found l q e h).1.1
+  module _ {v : Varint} (h : x ≡ Ok v) where
+    at-varint : single (varint_in (drop q l)) ≡ found (varint v.value) (read_found l q (sym h ∙ e)).0
+    at-varint = ap single (read_found l q (sym h ∙ e)).1.1
 
-    pub varint_29 : {b : Bool} (t : Taken) (ws : List ℕ) → b ≡ not (numbered f) → b ≡ true → t ≡ record { fault = 29; next = 0 } → Takes (held_at q f w (single (varint_in (drop q l)))) t ws
-    varint_29 t ws a b g = held_29 q f w t ws at-varint (misnumbered_yes f a b) (fault-of g)
+    pub varint_29 : {b : Bool} (t : Result ℕ Refusal) (ws : List ℕ) → b ≡ not (numbered f) → b ≡ true → t ≡ Err Malformed → Takes (held_at q f w (single (varint_in (drop q l)))) t ws
+    varint_29 t ws a b g = held_29 q f w t ws at-varint (misnumbered_yes f a b) (ap told g)
 
-    pub varint-go : (t : Taken) (ws : List ℕ) → numbered f ≡ true → Takes (closed v.next (entered (record { number = f; payload = varint v.value }) w)) t ws
+    pub varint-go : (t : Result ℕ Refusal) (ws : List ℕ) → numbered f ≡ true → Takes (closed v.next (entered (record { number = f; payload = varint v.value }) w)) t ws
         → Takes (held_at q f w (single (varint_in (drop q l)))) t ws
     varint-go t ws b g =
-        held-go q f w t ws at-varint b (subst (λ (j : ℕ). Takes (closed j (entered (record { number = f; payload = varint v.value }) w)) t ws) (read_found l q e h).1.0 g)
+        held-go q f w t ws at-varint b (subst (λ (j : ℕ). Takes (closed j (entered (record { number = f; payload = varint v.value }) w)) t ws) (read_found l q (sym h ∙ e)).1.0 g)
 
 -- ** A length and as many bytes
 
-module _ (l : List ℕ) (q f : ℕ) (w : ConfState) {v : Varint} (e : v ≡ varint_at l q) where
-  pub length-bad : (t : Taken) (ws : List ℕ) → (v.fault ≡ 0 → ⊥) → t ≡ record { fault = v.fault; next = 0 } → Takes (held_at q f w (length_in (drop q l) (varint_in (drop q l)))) t ws
-  length-bad t ws h g = held-bad q f w t ws (ap (length_in (drop q l)) (read-bad l q e h)) (fault-of g)
+module _ (l : List ℕ) (q f : ℕ) (w : ConfState) {x : Result Varint Fault} (e : x ≡ read_at l q) where
+  pub length-bad : (t : Result ℕ Refusal) (ws : List ℕ) {d : Fault} → x ≡ Err d → t ≡ Err (refusal_for d) → Takes (held_at q f w (length_in (drop q l) (varint_in (drop q l)))) t ws
+  length-bad t ws {d} h g = held-bad q f w t ws (ap (length_in (drop q l)) (read-bad l q (sym h ∙ e))) (bad-told d g)
 
-  module _ (h : v.fault ≡ 0) where
+  module _ {v : Varint} (h : x ≡ Ok v) where
     abbrev n : ℕ
-    n = (read_found l q e h).0
+    n = (read_found l q (sym h ∙ e)).0
 
     ends : v.next ≡ q + n
-    ends = (read_found l q e h).1.0
+    ends = (read_found l q (sym h ∙ e)).1.0
 
     at_length : length_in (drop q l) (varint_in (drop q l)) ≡ length_in (drop q l) (found v.value n)
-    at_length = ap (length_in (drop q l)) (read_found l q e h).1.1
+    at_length = ap (length_in (drop q l)) (read_found l q (sym h ∙ e)).1.1
 
     pub next-within : v.next ≤ length l
-    next-within = omega (arith, ends, (found_within (drop q l) (read_found l q e h).1.1).0, (found_within (drop q l) (read_found l q e h).1.1).1, length-drop q l)
+    next-within = omega (arith, ends, (found_within (drop q l) (read_found l q (sym h ∙ e)).1.1).0, (found_within (drop q l) (read_found l q (sym h ∙ e)).1.1).1, length-drop q l)
 
-    pub length_28 : (t : Taken) (ws : List ℕ) → length l - v.next < v.value → t ≡ record { fault = 28; next = 0 } → Takes (held_at q f w (length_in (drop q l) (varint_in (drop q l)))) t ws
+    pub length_28 : (t : Result ℕ Refusal) (ws : List ℕ) → length l - v.next < v.value → t ≡ Err CutShort → Takes (held_at q f w (length_in (drop q l) (varint_in (drop q l)))) t ws
     length_28 t ws a g =
         let b : length (drop q l) - n < v.value = omega (arith, length-drop q l, ends) in
-        held-bad q f w t ws (at_length ∙ rw (lt-leb v.value (length (drop q l) - n) b)) (fault-of g)
+        held-bad q f w t ws (at_length ∙ rw (lt-leb v.value (length (drop q l) - n) b)) (ap told g)
 
     module _ (fit : v.value ≤ length l - v.next) where
       at-bytes : length_in (drop q l) (varint_in (drop q l)) ≡ found (bytes (take v.value (drop v.next l))) (n + v.value)
@@ -208,11 +224,11 @@ module _ (l : List ℕ) (q f : ℕ) (w : ConfState) {v : Varint} (e : v ≡ vari
           let d : drop n (drop q l) ≡ drop v.next l = drop-drop n q l ∙ ap (λ (j : ℕ). drop j l) (sym ends) in
           at_length ∙ rw (le-leb v.value (length (drop q l) - n) b, d)
 
-      pub length_29 : {b : Bool} (t : Taken) (ws : List ℕ) → b ≡ not (numbered f) → b ≡ true → t ≡ record { fault = 29; next = 0 }
+      pub length_29 : {b : Bool} (t : Result ℕ Refusal) (ws : List ℕ) → b ≡ not (numbered f) → b ≡ true → t ≡ Err Malformed
           → Takes (held_at q f w (length_in (drop q l) (varint_in (drop q l)))) t ws
-      length_29 t ws a b g = held_29 q f w t ws at-bytes (misnumbered_yes f a b) (fault-of g)
+      length_29 t ws a b g = held_29 q f w t ws at-bytes (misnumbered_yes f a b) (ap told g)
 
-      pub length-go : (t : Taken) (ws : List ℕ) → numbered f ≡ true
+      pub length-go : (t : Result ℕ Refusal) (ws : List ℕ) → numbered f ≡ true
           → Takes (closed (v.next + v.value) (entered (record { number = f; payload = bytes (take v.value (drop v.next l)) }) w)) t ws
           → Takes (held_at q f w (length_in (drop q l) (varint_in (drop q l)))) t ws
       length-go t ws b g =
@@ -220,29 +236,10 @@ module _ (l : List ℕ) (q f : ℕ) (w : ConfState) {v : Varint} (e : v ≡ vari
           held-go q f w t ws at-bytes b (subst (λ (j : ℕ). Takes (closed j (entered (record { number = f; payload = bytes (take v.value (drop v.next l)) }) w)) t ws) k g)
 
   -- the flag is no bytes
-  pub flag-bytes : (j : ℕ) (y : List ℕ) (t : Taken) (ws : List ℕ) → f ≡ 5 → t ≡ record { fault = 29; next = 0 } → Takes (closed j (entered (record { number = f; payload = bytes y }) w)) t ws
+  pub flag-bytes : (j : ℕ) (y : List ℕ) (t : Result ℕ Refusal) (ws : List ℕ) → f ≡ 5 → t ≡ Err Malformed → Takes (closed j (entered (record { number = f; payload = bytes y }) w)) t ws
   unfolding Takes
-  flag-bytes j y t ws g b = subst (λ (r : Read). Takes (closed j r) t ws) (sym (entered-flag f (bytes y) w g)) (fault-of b)
+  flag-bytes j y t ws g b = subst (λ (r : Read). Takes (closed j r) t ws) (sym (entered-flag f (bytes y) w g)) (ap told b)
 
 -- the bytes that are lent, as many as the length says
-pub grown_part : (old l : List ℕ) (s j n g : ℕ) (new : List ℕ) → j ≡ n → Grows (grown old (packed (take j (drop s l)))) g new → Grows (grown old (numbers (bytes (take n (drop s l))))) g new
+pub grown_part : (old l : List ℕ) (s j n : ℕ) (g : Result (Unit {0}) Refusal) (new : List ℕ) → j ≡ n → Grows (grown old (packed (take j (drop s l)))) g new → Grows (grown old (numbers (bytes (take n (drop s l))))) g new
 grown_part old l s j n g new e h = subst (λ (i : ℕ). Grows (grown old (packed (take i (drop s l)))) g new) e h
-
--- ** Eight or four bytes
-
-module _ (room q f n : ℕ) where
-  pub fixed_28 : {t : Taken} → room < n → t ≡ record { fault = 28; next = 0 } → t ≡ fixed_at room q f n
-  unfolding fixed_at
-  fixed_28 h e = e ∙ sym (rw (lt-leb n room h))
-
-  pub fixed_29 : {t : Taken} {b : Bool} → n ≤ room → b ≡ not (numbered f) → b ≡ true → t ≡ record { fault = 29; next = 0 } → t ≡ fixed_at room q f n
-  unfolding fixed_at
-  fixed_29 h a b e = e ∙ sym (rw (le-leb n room h, misnumbered_yes f a b))
-
-  pub fixed_known : {t : Taken} {b : Bool} → n ≤ room → b ≡ not (numbered f) → b ≡ false → f < 6 → t ≡ record { fault = 29; next = 0 } → t ≡ fixed_at room q f n
-  unfolding fixed_at
-  fixed_known h a b k e = e ∙ sym (rw (le-leb n room h, misnumbered_no f a b, le-ltb 5 f (omega arith)))
-
-  pub fixed-go : {b : Bool} → n ≤ room → b ≡ not (numbered f) → b ≡ false → 6 ≤ f → record { fault = 0; next = q + n } ≡ fixed_at room q f n
-  unfolding fixed_at
-  fixed-go h a b k = sym (rw (le-leb n room h, misnumbered_no f a b, lt-ltb 5 f (omega arith)))

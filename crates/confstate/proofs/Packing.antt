@@ -8,23 +8,29 @@ use borrow.Author.Tests.{le-leb, lt-leb, ltb-true, ltb-false}
 use lib.Dec.{leb, ltb}
 use lib.ListN.{length, take, drop, get_or, set, length-set, length-drop, length-append, drop_of_length-le}
 use lib.Seq.{append_snoc, take_all, take-append-le, drop-drop}
+use Rattle.std.specs.Prelude.{Result, Ok, Err}
 use Rattle.rules.specs.Wire.{Front, cut, num, front, fits, Found, bad, found, judged, varint_in}
 use Rattle.rules.specs.Message.{Numbers, faulty, all, lower, before, packed, grown}
 use Rattle.rules.proofs.Wire.{fits-yes, front-within}
 use Rattle.rules.proofs.Packed.{packed_none, packed-cut, packed-num}
-use Rattle.wire.specs.Varints.{varint_at}
+use Rattle.wire.specs.Varints.{read_at}
 use Rattle.wire.specs.declared.Varint.{Varint}
+use Rattle.wire.specs.declared.Fault.{Fault}
+use Rattle.wire.specs.declared.Fault.TheVariants as faults
 use Rattle.wire.proofs.Fronts.{front-last}
-use Rattle.wire.proofs.Found.{read-bad, read_found, read-fault, found_within}
+use Rattle.wire.proofs.Found.{read-bad, read_found, read_over, found_within}
 use Rattle.confstate.specs.Words.{list_words, list_in}
+use Rattle.confstate.specs.Refusals.{number_of}
 use Rattle.confstate.specs.Steps.{Listing, Grows}
+use Rattle.confstate.specs.declared.read.Refusal.{Refusal}
+use Rattle.confstate.specs.declared.read.Refusal.TheVariants.{CutShort, LongList}
 use Rattle.confstate.proofs.Words.{counted, count_set, told, id-set, listed-count}
 
 -- ** Packed numbers, by what is read first
 
-abbrev number_of : {A : Type 0} → Found A → ℕ
-number_of (bad e) = e
-number_of (found x n) = 0
+abbrev bad_of : {A : Type 0} → Found A → ℕ
+bad_of (bad e) = e
+bad_of (found x n) = 0
 
 abbrev size_of : {A : Type 0} → Found A → ℕ
 size_of (bad e) = 0
@@ -35,8 +41,8 @@ unfolding varint_in
 packed_28 l h e = by (front l) refl e
   where
     fit : (t : Bool) (v n : ℕ) → cond t (found v n) (bad 29) ≡ bad 28 → packed l ≡ faulty 28
-    fit true v n z = absurd (omega (arith, ap number_of z))
-    fit false v n z = absurd (omega (arith, ap number_of z))
+    fit true v n z = absurd (omega (arith, ap bad_of z))
+    fit false v n z = absurd (omega (arith, ap bad_of z))
 
     by : (f : Front) → front l ≡ f → judged f ≡ bad 28 → packed l ≡ faulty 28
     by cut g z = packed-cut l h g
@@ -50,18 +56,18 @@ packed-found l {v} {n} e = by (front l) refl e
     fit w m g true t z =
         let k : m ≡ n = ap size_of z in
         packed-num l g ∙ (ap (λ (b : Bool). before (cond b (found w m) (bad 29)) (packed (drop m l))) t ∙ (ap (λ (x : Found ℕ). before x (packed (drop m l))) z ∙ ap (λ (j : ℕ). before (found v n) (packed (drop j l))) k))
-    fit w m g false t z = absurd (omega (arith, ap number_of z))
+    fit w m g false t z = absurd (omega (arith, ap bad_of z))
 
     by : (f : Front) → front l ≡ f → judged f ≡ found v n → packed l ≡ before (found v n) (packed (drop n l))
-    by cut g z = absurd (omega (arith, ap number_of z))
+    by cut g z = absurd (omega (arith, ap bad_of z))
     by (num w m) g z = fit w m g (fits w m) refl z
 
 packed_over : (l : List ℕ) {v n : ℕ} → front l ≡ num v n → fits v n ≡ false → packed l ≡ lower 29 (packed (drop n l))
 packed_over l {v} {n} g t = packed-num l g ∙ ap (λ (b : Bool). before (cond b (found v n) (bad 29)) (packed (drop n l))) t
 
-one_found : (l : List ℕ) (p : ℕ) → p < length l → get_or l p 0 < 128 → varint_in (drop p l) ≡ found (get_or l p 0) 1
+one_found : (l : List ℕ) (p : ℕ) → p < length l → {b : ℕ} → b ≡ get_or l p 0 → b < 128 → varint_in (drop p l) ≡ found b 1
 unfolding varint_in
-one_found l p h b = ap judged (front-last l p h b) ∙ rw (fits-yes (get_or l p 0) 1 (omega arith) (omega arith))
+one_found l p h {b} e k = ap judged (front-last l p h (omega arith)) ∙ rw (← e, fits-yes b 1 (omega arith) (omega arith))
 
 -- ** The loop
 
@@ -105,16 +111,16 @@ stored zs c x = by (ltb (length zs) 64) refl
     by false t = ap (λ (l : List ℕ). counted l c) (sym (take-append-le 64 zs (x ∷ []) (ltb-false _ _ t)))
 
 -- the loop has come to p: `old` was there before, c is the count that stands in the words meanwhile
-pub record Packing (l old : List ℕ) (c : ℕ) (ws : List ℕ) (n : ℕ) (over : Bool) (p : ℕ) : Type 0 where
+pub record Packing (l old : List ℕ) (c : ℕ) (ws : List ℕ) (n p : ℕ) : Type 0 where
   pub seen : List ℕ
   pub long : length ws ≡ 65
   pub spot : p ≤ length l
   pub count : n ≡ length seen
   pub bound : n ≤ 64 + p
   pub holds : ws ≡ counted (take 64 seen) c
-  pub same : result over seen (packed (drop p l)) ≡ grown old (packed l)
+  pub same : grown seen (packed (drop p l)) ≡ grown old (packed l)
 
-pub packing_start : {l : List ℕ} {ws : List ℕ} → Listing ws → Packing l (list_in ws 0) (length (list_in ws 0)) ws (get_or ws 64 0) false 0
+pub packing_start : {l : List ℕ} {ws : List ℕ} → Listing ws → Packing l (list_in ws 0) (length (list_in ws 0)) ws (get_or ws 64 0) 0
 unfolding list_words
 packing_start {l} {ws} k =
     record {
@@ -127,16 +133,16 @@ packing_start {l} {ws} k =
       same = refl;
     }
 
-module _ {l old : List ℕ} {c : ℕ} {ws : List ℕ} {n p : ℕ} {over : Bool} (k : Packing l old c ws n over p) where
-  here : {r : Numbers} → packed (drop p l) ≡ r → result over k.seen r ≡ grown old (packed l)
-  here e = ap (result over k.seen) (sym e) ∙ k.same
+module _ {l old : List ℕ} {c : ℕ} {ws : List ℕ} {n p : ℕ} (k : Packing l old c ws n p) where
+  here : {r : Numbers} → packed (drop p l) ≡ r → grown k.seen r ≡ grown old (packed l)
+  here e = ap (grown k.seen) (sym e) ∙ k.same
 
   kept : (t : Bool) (x : ℕ) → length (cond t (set ws n x) ws) ≡ length ws
   kept true x = length-set ws n x
   kept false x = refl
 
   -- one more number, of so many bytes
-  packing_found : {x size : ℕ} {m : List ℕ} → varint_in (drop p l) ≡ found x size → m ≡ cond (ltb n 64) (set ws n x) ws → Packing l old c m (n + 1) over (p + size)
+  packing_found : {x size : ℕ} {m : List ℕ} → varint_in (drop p l) ≡ found x size → m ≡ cond (ltb n 64) (set ws n x) ws → Packing l old c m (n + 1) (p + size)
   packing_found {x} {size} {m} reads g =
       let d : drop size (drop p l) ≡ drop (p + size) l = drop-drop size p l in
       record {
@@ -146,92 +152,124 @@ module _ {l old : List ℕ} {c : ℕ} {ws : List ℕ} {n p : ℕ} {over : Bool} 
         count = omega (arith, k.count, length-append k.seen (x ∷ []));
         bound = omega (arith, k.bound, (found_within (drop p l) reads).0);
         holds = g ∙ (rw (k.holds, k.count) (stored k.seen c x));
-        same = ap (λ (y : List ℕ). result over (k.seen ++ (x ∷ [])) (packed y)) (sym d)
-            ∙ (sym (result_value over k.seen x size (packed (drop size (drop p l)))) ∙ here (packed-found (drop p l) reads));
+        same = ap (λ (y : List ℕ). grown (k.seen ++ (x ∷ [])) (packed y)) (sym d)
+            ∙ (sym (result_value false k.seen x size (packed (drop size (drop p l)))) ∙ here (packed-found (drop p l) reads));
       }
 
   -- one of one byte
-  pub packing_one : p < length l → get_or l p 0 < 128 → {m : List ℕ} → m ≡ cond (ltb n 64) (set ws n (get_or l p 0)) ws → Packing l old c m (n + 1) over (p + 1)
-  packing_one h b g = packing_found (one_found l p h b) g
+  pub packing_one : p < length l → {b : ℕ} → b ≡ get_or l p 0 → b < 128 → {m : List ℕ} → m ≡ cond (ltb n 64) (set ws n b) ws → Packing l old c m (n + 1) (p + 1)
+  packing_one h e k g = packing_found (one_found l p h e k) g
 
-  module _ (h : p < length l) {v : Varint} (e : v ≡ varint_at l p) where
+  module _ (h : p < length l) {x : Result Varint Fault} (e : x ≡ read_at l p) where
     left : 0 < length (drop p l)
     left = simp length-drop (omega arith)
 
-    pub packing_cut : v.fault ≡ 28 → Grows (grown old (packed l)) 28 ws
+    pub packing_cut : x ≡ Err faults.CutShort → Grows (grown old (packed l)) (Err CutShort) ws
     unfolding Grows
     packing_cut f =
-        let a : varint_in (drop p l) ≡ bad 28 = read-bad l p e (λ z. omega arith) ∙ ap (λ (x : ℕ). bad x) f in
-        let b : grown old (packed l) ≡ faulty 28 = sym (here (packed_28 (drop p l) left a)) ∙ result_cut over k.seen in
-        subst (λ (r : Numbers). Grows r 28 ws) (sym b) refl
+        let a : varint_in (drop p l) ≡ bad 28 = read-bad l p (sym f ∙ e) in
+        let b : grown old (packed l) ≡ faulty 28 = sym (here (packed_28 (drop p l) left a)) ∙ result_cut false k.seen in
+        subst (λ (r : Numbers). Grows r (Err CutShort) ws) (sym b) refl
 
-    module _ (f : v.fault ≡ 0) where
+    module _ {v : Varint} (f : x ≡ Ok v) where
       abbrev size : ℕ
-      size = (read_found l p e f).0
+      size = (read_found l p (sym f ∙ e)).0
 
       ends : v.next ≡ p + size
-      ends = (read_found l p e f).1.0
+      ends = (read_found l p (sym f ∙ e)).1.0
 
       reads : varint_in (drop p l) ≡ found v.value size
-      reads = (read_found l p e f).1.1
+      reads = (read_found l p (sym f ∙ e)).1.1
 
       pub value-within : (p < v.next) × (v.next ≤ length l)
       value-within = (omega (arith, (found_within (drop p l) reads).0, ends), omega (arith, (found_within (drop p l) reads).1, ends, length-drop p l))
 
-      pub packing_next : {m : List ℕ} → m ≡ cond (ltb n 64) (set ws n v.value) ws → Packing l old c m (n + 1) over v.next
-      packing_next {m} g = subst (λ (j : ℕ). Packing l old c m (n + 1) over j) (sym ends) (packing_found reads g)
+      pub packing_next : {m : List ℕ} → m ≡ cond (ltb n 64) (set ws n v.value) ws → Packing l old c m (n + 1) v.next
+      packing_next {m} g = subst (λ (j : ℕ). Packing l old c m (n + 1) j) (sym ends) (packing_found reads g)
 
-    module _ (f : v.fault ≡ 0 → ⊥) (g : v.fault ≡ 28 → ⊥) where
+    module _ {next : ℕ} (f : x ≡ Err (faults.Malformed next)) where
       abbrev wide : ℕ
-      wide = (read-fault l p e f g).1
+      wide = (read_over l p (sym f ∙ e)).1
 
-      over_ends : v.next ≡ p + wide
-      over_ends = (read-fault l p e f g).2.1.0
+      over_ends : next ≡ p + wide
+      over_ends = (read_over l p (sym f ∙ e)).2.0
 
-      over_front : front (drop p l) ≡ num (read-fault l p e f g).0 wide
-      over_front = (read-fault l p e f g).2.1.1.0
+      over_front : front (drop p l) ≡ num (read_over l p (sym f ∙ e)).0 wide
+      over_front = (read_over l p (sym f ∙ e)).2.1.0
 
-      pub over_within : (p < v.next) × (v.next ≤ length l)
+      pub over_within : (p < next) × (next ≤ length l)
       over_within = (omega (arith, (front-within (drop p l) over_front).0, over_ends), omega (arith, (front-within (drop p l) over_front).1, over_ends, length-drop p l))
 
-      pub packing_over : Packing l old c ws n true v.next
-      packing_over =
-          let d : drop wide (drop p l) ≡ drop v.next l = drop-drop wide p l ∙ ap (λ (j : ℕ). drop j l) (sym over_ends) in
-          record {
-            long = k.long;
-            seen = k.seen;
-            spot = over_within.1;
-            count = k.count;
-            bound = omega (arith, k.bound, over_within.0);
-            holds = k.holds;
-            same = ap (λ (x : List ℕ). lower 29 (packed x)) (sym d)
-                ∙ (sym (result_over over k.seen (packed (drop wide (drop p l)))) ∙ here (packed_over (drop p l) over_front (read-fault l p e f g).2.1.1.1));
-          }
+      pub packing_over : (r : Refusal) → lower 29 (packed (drop next l)) ≡ faulty (number_of r) → Grows (grown old (packed l)) (Err r) ws
+      unfolding Grows
+      packing_over r y =
+          let d : drop wide (drop p l) ≡ drop next l = drop-drop wide p l ∙ ap (λ (j : ℕ). drop j l) (sym over_ends) in
+          let b : grown old (packed l) ≡ faulty (number_of r)
+          = sym (here (packed_over (drop p l) over_front (read_over l p (sym f ∙ e)).2.1.1))
+          ∙ (result_over false k.seen (packed (drop wide (drop p l))) ∙ (ap (λ (x : List ℕ). lower 29 (packed x)) d ∙ y)) in
+          subst (λ (x : Numbers). Grows x (Err r) ws) (sym b) refl
 
   module _ (h : length l ≤ p) where
-    ended : result over k.seen (all []) ≡ grown old (packed l)
-    ended = here (ap packed (drop_of_length-le l h) ∙ packed_none)
+    whole : grown old (packed l) ≡ cond (leb (length k.seen) 64) (all k.seen) (faulty 30)
+    whole = sym (here (ap packed (drop_of_length-le l h) ∙ packed_none)) ∙ rw append-nil
 
-    pub packing_29 : over ≡ true → Grows (grown old (packed l)) 29 ws
+    pub packing_30 : 64 < n → Grows (grown old (packed l)) (Err LongList) ws
     unfolding Grows
-    packing_29 e =
-        let b : grown old (packed l) ≡ faulty 29 = sym ended ∙ ap (λ (b : Bool). result b k.seen (all [])) e in
-        subst (λ (r : Numbers). Grows r 29 ws) (sym b) refl
+    packing_30 g =
+        let b : grown old (packed l) ≡ faulty 30 = whole ∙ rw (lt-leb (length k.seen) 64 (omega (arith, k.count))) in
+        subst (λ (r : Numbers). Grows r (Err LongList) ws) (sym b) refl
 
-    whole : over ≡ false → grown old (packed l) ≡ cond (leb (length k.seen) 64) (all k.seen) (faulty 30)
-    whole e = sym ended ∙ (ap (λ (b : Bool). result b k.seen (all [])) e ∙ rw append-nil)
-
-    pub packing_30 : over ≡ false → 64 < n → Grows (grown old (packed l)) 30 ws
+    pub packing_all : n ≤ 64 → Grows (grown old (packed l)) (Ok tt) (set ws 64 n)
     unfolding Grows
-    packing_30 e g =
-        let b : grown old (packed l) ≡ faulty 30 = whole e ∙ rw (lt-leb (length k.seen) 64 (omega (arith, k.count))) in
-        subst (λ (r : Numbers). Grows r 30 ws) (sym b) refl
-
-    pub packing_all : over ≡ false → n ≤ 64 → Grows (grown old (packed l)) 0 (set ws 64 n)
-    unfolding Grows
-    packing_all e g =
+    packing_all g =
         let few : length k.seen ≤ 64 = omega (arith, k.count) in
-        let b : grown old (packed l) ≡ all k.seen = whole e ∙ rw (le-leb (length k.seen) 64 few) in
+        let b : grown old (packed l) ≡ all k.seen = whole ∙ rw (le-leb (length k.seen) 64 few) in
         let w : set ws 64 n ≡ list_words k.seen
         = ap (λ (x : List ℕ). set x 64 n) (k.holds ∙ ap (λ (x : List ℕ). counted x c) (take_all 64 k.seen few)) ∙ (count_set k.seen c n few ∙ told k.seen k.count) in
-        subst (λ (r : Numbers). Grows r 0 (set ws 64 n)) (sym b) (refl, w)
+        subst (λ (r : Numbers). Grows r (Ok tt) (set ws 64 n)) (sym b) (refl, w)
+
+-- ** The numbers after one that was malformed
+
+-- the loop has come to p
+pub record Passing (l : List ℕ) (at p : ℕ) : Type 0 where
+  pub spot : p ≤ length l
+  pub same : lower 29 (packed (drop p l)) ≡ lower 29 (packed (drop at l))
+
+pub passing_start : {l : List ℕ} {at : ℕ} → at ≤ length l → Passing l at at
+passing_start h = record { spot = h; same = refl }
+
+module _ {l : List ℕ} {at p : ℕ} (k : Passing l at p) where
+  past : {r : Numbers} → packed (drop p l) ≡ r → lower 29 r ≡ lower 29 (packed (drop at l))
+  past e = ap (lower 29) (sym e) ∙ k.same
+
+  module _ (h : p < length l) {x : Result Varint Fault} (e : x ≡ read_at l p) where
+    pub passing_cut : x ≡ Err faults.CutShort → lower 29 (packed (drop at l)) ≡ faulty 28
+    passing_cut f = sym (past (packed_28 (drop p l) (simp length-drop (omega arith)) (read-bad l p (sym f ∙ e))))
+
+    -- a number of so many bytes
+    pub passing_next : {v : Varint} → x ≡ Ok v → Passing l at v.next × (p < v.next)
+    passing_next {v} f =
+        let r = read_found l p (sym f ∙ e) in
+        let d : drop r.0 (drop p l) ≡ drop v.next l = drop-drop r.0 p l ∙ ap (λ (j : ℕ). drop j l) (sym r.1.0) in (
+          record {
+            spot = omega (arith, (found_within (drop p l) r.1.1).1, r.1.0, length-drop p l);
+            same = ap (λ (y : List ℕ). lower 29 (packed y)) (sym d)
+                ∙ (sym (result_value true [] v.value r.0 (packed (drop r.0 (drop p l)))) ∙ past (packed-found (drop p l) r.1.1));
+          },
+          omega (arith, (found_within (drop p l) r.1.1).0, r.1.0),
+        )
+
+    pub passing_over : {next : ℕ} → x ≡ Err (faults.Malformed next) → Passing l at next × (p < next)
+    passing_over {next} f =
+        let r = read_over l p (sym f ∙ e) in
+        let d : drop r.1 (drop p l) ≡ drop next l = drop-drop r.1 p l ∙ ap (λ (j : ℕ). drop j l) (sym r.2.0) in (
+          record {
+            spot = omega (arith, (front-within (drop p l) r.2.1.0).1, r.2.0, length-drop p l);
+            same = ap (λ (y : List ℕ). lower 29 (packed y)) (sym d)
+                ∙ (sym (result_over true [] (packed (drop r.1 (drop p l)))) ∙ past (packed_over (drop p l) r.2.1.0 r.2.1.1));
+          },
+          omega (arith, (front-within (drop p l) r.2.1.0).0, r.2.0),
+        )
+
+  pub passing_end : length l ≤ p → lower 29 (packed (drop at l)) ≡ faulty 29
+  passing_end h = sym (past (ap packed (drop_of_length-le l h) ∙ packed_none))

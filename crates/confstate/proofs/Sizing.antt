@@ -120,6 +120,9 @@ block_lent ws k {n} e =
     let a : k + n - k ≡ at ws (k + 64) = omega arith in
     ap (λ (m : ℕ). take m (drop k ws)) a
 
+pub lent_few : {ws xs : List ℕ} {k : ℕ} → Block ws k → xs ≡ list_in ws k → length xs ≤ 64
+lent_few b e = rw e b.few
+
 module _ {ws : List ℕ} (w : Writable ws) where
   pub block_1 : Block ws 0
   unfolding message_in
@@ -186,16 +189,6 @@ module _ (ws : List ℕ) (h : length ws ≡ 261) where
           refused_none e =
               let s : ltb 64 (length (list_in ws 195)) ≡ false = le-ltb 64 (length (list_in ws 195)) (omega (arith, count-few ws 195 (omega arith) e)) in
               rw (is-conf-state ws h k, short_1, short_2, short_3, s)
-
--- any number of a refusal is small
-pub refusal-few : (ws : List ℕ) → refusal_of ws ≤ 2
-unfolding refusal_of
-refusal-few ws = by (is_conf_state ws) (overlong (message_in ws))
-  where
-    by : (t o : Bool) → cond t (cond o 2 0) 1 ≤ 2
-    by true true = omega arith
-    by true false = omega arith
-    by false o = omega arith
 
 -- words that are not refused
 few : (m : ConfState) → overlong m ≡ false → Few64 m

@@ -8,6 +8,7 @@ use borrow.Author.Tests.{ltb-true, ltb-false, eq-eqb, ne_eqb}
 use lib.Dec.{leb, ltb}
 use lib.ListN.{length, drop, length-drop, drop_of_length-le}
 use lib.Seq.{drop-drop}
+use Rattle.std.specs.Prelude.{Result, Ok, Err}
 use Rattle.rules.specs.State.{ConfState}
 use Rattle.rules.specs.Apply.{no_conf_state}
 use Rattle.rules.specs.Wire.{Found, bad, found, Payload, fixed, single, fixed_in, length_in, payload_in, Field, numbered, held, tagged, varint_in, field_in, row}
@@ -16,14 +17,17 @@ use Rattle.rules.proofs.Refusals.{field-named, entered-named}
 use Rattle.rules.proofs.Lists64.{entered-few, few_none}
 use Rattle.rules.proofs.MessageFirst.{row-end, row_first, row-bad}
 use Rattle.rules.proofs.Wire.{field-within}
-use Rattle.wire.specs.Varints.{varint_at}
+use Rattle.wire.specs.Varints.{read_at}
 use Rattle.wire.specs.declared.Varint.{Varint}
+use Rattle.wire.specs.declared.Fault.{Fault}
 use Rattle.wire.proofs.Found.{read-bad, read_found}
 use Rattle.confstate.specs.Words.{conf_state_words, message_in}
 use Rattle.confstate.specs.Steps.{Holding, Reads, Step, stop, go, Takes, closed, held_at, tagged_at, field_at, fixed_at}
-use Rattle.confstate.specs.declared.read.Taken.{Taken}
-use Rattle.confstate.proofs.Words.{holding, words_back, words-length}
-use Rattle.confstate.proofs.Fields.{held-bad, held_29, held-go, fault-of, numbered-some, unknown-taken}
+use Rattle.confstate.specs.Refusals.{refusal_for, told}
+use Rattle.confstate.specs.declared.read.Refusal.{Refusal}
+use Rattle.confstate.specs.declared.read.Refusal.TheVariants.{CutShort, Malformed}
+use Rattle.confstate.proofs.Words.{holding, words_back}
+use Rattle.confstate.proofs.Fields.{held-bad, held_29, held-go, bad-told, named, numbered-some, unknown-taken}
 
 -- ** The payload, by the wire type
 
@@ -59,7 +63,7 @@ entered-fixed (suc (suc (suc (suc zero)))) m a b = refl
 entered-fixed (suc (suc (suc (suc (suc zero))))) m a b = refl
 entered-fixed (suc (suc (suc (suc (suc (suc f)))))) m a b = absurd (omega arith)
 
-module _ {ws : List ℕ} (k : Holding ws) (l : List ℕ) (q f n : ℕ) (t : Taken) where
+module _ {ws : List ℕ} (k : Holding ws) (l : List ℕ) (q f n : ℕ) (t : Result ℕ Refusal) where
   fixed-taken : t ≡ fixed_at (length l - q) q f n → Takes (held_at q f (message_in ws) (fixed_in n (drop q l))) t ws
   unfolding fixed_at Takes
   fixed-taken e = by (leb n (length l - q)) refl e
@@ -70,56 +74,56 @@ module _ {ws : List ℕ} (k : Holding ws) (l : List ℕ) (q f n : ℕ) (t : Take
       here : (c : Bool) → leb n (length l - q) ≡ c → fixed_in n (drop q l) ≡ cond c (found fixed n) (bad 28)
       here c h = ap (λ (x : Bool). cond x (found fixed n) (bad 28)) (room c h)
 
-      known : (c : Bool) → ltb 5 f ≡ c → numbered f ≡ true → leb n (length l - q) ≡ true → t ≡ cond c (record { fault = 0; next = q + n }) (record { fault = 29; next = 0 })
+      known : (c : Bool) → ltb 5 f ≡ c → numbered f ≡ true → leb n (length l - q) ≡ true → t ≡ cond c (Ok (q + n)) (Err Malformed)
           → Takes (held_at q f (message_in ws) (fixed_in n (drop q l))) t ws
       known true h b g z =
           held-go q f (message_in ws) t ws (here true g) b
-          (subst (λ (x : Taken). Takes (closed (q + n) (entered (record { number = f; payload = fixed }) (message_in ws))) x ws) (sym z) (unknown-taken k f (q + n) fixed (ltb-true 5 f h)))
+          (subst (λ (x : Result ℕ Refusal). Takes (closed (q + n) (entered (record { number = f; payload = fixed }) (message_in ws))) x ws) (sym z) (unknown-taken k f (q + n) fixed (ltb-true 5 f h)))
       known false h b g z =
           held-go q f (message_in ws) t ws (here true g) b
-          (subst (λ (r : Read). Takes (closed (q + n) r) t ws) (sym (entered-fixed f (message_in ws) (numbered-some f b) (ltb-false 5 f h))) (fault-of z))
+          (subst (λ (r : Read). Takes (closed (q + n) r) t ws) (sym (entered-fixed f (message_in ws) (numbered-some f b) (ltb-false 5 f h))) (ap told z))
 
-      fits : (c : Bool) → numbered f ≡ c → leb n (length l - q) ≡ true → t ≡ cond (c && ltb 5 f) (record { fault = 0; next = q + n }) (record { fault = 29; next = 0 })
+      fits : (c : Bool) → numbered f ≡ c → leb n (length l - q) ≡ true → t ≡ cond (c && ltb 5 f) (Ok (q + n)) (Err Malformed)
           → Takes (held_at q f (message_in ws) (fixed_in n (drop q l))) t ws
       fits true b g z = known (ltb 5 f) refl b g z
-      fits false b g z = held_29 q f (message_in ws) t ws (here true g) b (fault-of z)
+      fits false b g z = held_29 q f (message_in ws) t ws (here true g) b (ap told z)
 
       by : (c : Bool) → leb n (length l - q) ≡ c
-          → t ≡ cond c (cond (numbered f && ltb 5 f) (record { fault = 0; next = q + n }) (record { fault = 29; next = 0 })) (record { fault = 28; next = 0 })
+          → t ≡ cond c (cond (numbered f && ltb 5 f) (Ok (q + n)) (Err Malformed)) (Err CutShort)
           → Takes (held_at q f (message_in ws) (fixed_in n (drop q l))) t ws
       by true g z = fits (numbered f) refl g z
-      by false g z = held-bad q f (message_in ws) t ws (here false g) (fault-of z)
+      by false g z = held-bad q f (message_in ws) t ws (here false g) (ap told z)
 
 -- ** A field, by its tag
 
-module _ (l : List ℕ) (q : ℕ) (w : ConfState) {v : Varint} (e : v ≡ varint_at l q) where
-  pub tag-bad : (t : Taken) (ws : List ℕ) → (v.fault ≡ 0 → ⊥) → t ≡ record { fault = v.fault; next = 0 } → Takes (field_at l q w) t ws
+module _ (l : List ℕ) (q : ℕ) (w : ConfState) {x : Result Varint Fault} (e : x ≡ read_at l q) where
+  pub tag-bad : (t : Result ℕ Refusal) (ws : List ℕ) {d : Fault} → x ≡ Err d → t ≡ Err (refusal_for d) → Takes (field_at l q w) t ws
   unfolding field_at Takes
-  tag-bad t ws h g = subst (λ (x : Found ℕ). Takes (tagged_at l q w x) t ws) (sym (read-bad l q e h)) (fault-of g)
+  tag-bad t ws {d} h g = subst (λ (y : Found ℕ). Takes (tagged_at l q w y) t ws) (sym (read-bad l q (sym h ∙ e))) (bad-told d g)
 
-  module _ (h : v.fault ≡ 0) where
+  module _ {v : Varint} (h : x ≡ Ok v) where
     by-tag : field_at l q w ≡ held_at v.next (v.value / 8) w (payload_in (v.value % 8) (drop v.next l))
     unfolding field_at
     by-tag =
-        ap (tagged_at l q w) (read_found l q e h).1.1
-        ∙ ap (λ (j : ℕ). held_at j (v.value / 8) w (payload_in (v.value % 8) (drop j l))) (sym (read_found l q e h).1.0)
+        ap (tagged_at l q w) (read_found l q (sym h ∙ e)).1.1
+        ∙ ap (λ (j : ℕ). held_at j (v.value / 8) w (payload_in (v.value % 8) (drop j l))) (sym (read_found l q (sym h ∙ e)).1.0)
 
-    with_payload : {x : Found Payload} (t : Taken) (ws : List ℕ) → payload_in (v.value % 8) (drop v.next l) ≡ x → Takes (held_at v.next (v.value / 8) w x) t ws → Takes (field_at l q w) t ws
+    with_payload : {x : Found Payload} (t : Result ℕ Refusal) (ws : List ℕ) → payload_in (v.value % 8) (drop v.next l) ≡ x → Takes (held_at v.next (v.value / 8) w x) t ws → Takes (field_at l q w) t ws
     with_payload t ws p g =
         subst (λ (s : Step). Takes s t ws) (sym by-tag) (subst (λ (y : Found Payload). Takes (held_at v.next (v.value / 8) w y) t ws) (sym p) g)
 
-    pub tag_2 : (t : Taken) (ws : List ℕ) → v.value % 8 ≡ 2
+    pub tag_2 : (t : Result ℕ Refusal) (ws : List ℕ) → v.value % 8 ≡ 2
         → Takes (held_at v.next (v.value / 8) w (length_in (drop v.next l) (varint_in (drop v.next l)))) t ws → Takes (field_at l q w) t ws
     tag_2 t ws p g = with_payload t ws (payload_2 (v.value % 8) (drop v.next l) p) g
 
-    pub tag_0 : (t : Taken) (ws : List ℕ) → v.value % 8 ≡ 0 → Takes (held_at v.next (v.value / 8) w (single (varint_in (drop v.next l)))) t ws → Takes (field_at l q w) t ws
+    pub tag_0 : (t : Result ℕ Refusal) (ws : List ℕ) → v.value % 8 ≡ 0 → Takes (held_at v.next (v.value / 8) w (single (varint_in (drop v.next l)))) t ws → Takes (field_at l q w) t ws
     tag_0 t ws p g = with_payload t ws (payload_0 (v.value % 8) (drop v.next l) p) g
 
-    pub tag_none : (t : Taken) (ws : List ℕ) → (v.value % 8 ≡ 0 → ⊥) → (v.value % 8 ≡ 1 → ⊥) → (v.value % 8 ≡ 2 → ⊥) → (v.value % 8 ≡ 5 → ⊥)
-        → t ≡ record { fault = 29; next = 0 } → Takes (field_at l q w) t ws
-    tag_none t ws a b c d g = with_payload t ws (payload_none (v.value % 8) (drop v.next l) a b c d) (held-bad v.next (v.value / 8) w t ws refl (fault-of g))
+    pub tag_none : (t : Result ℕ Refusal) (ws : List ℕ) → (v.value % 8 ≡ 0 → ⊥) → (v.value % 8 ≡ 1 → ⊥) → (v.value % 8 ≡ 2 → ⊥) → (v.value % 8 ≡ 5 → ⊥)
+        → t ≡ Err Malformed → Takes (field_at l q w) t ws
+    tag_none t ws a b c d g = with_payload t ws (payload_none (v.value % 8) (drop v.next l) a b c d) (held-bad v.next (v.value / 8) w t ws refl (ap told g))
 
-module _ {ws : List ℕ} (k : Holding ws) (l : List ℕ) (q : ℕ) {v : Varint} (e : v ≡ varint_at l q) (h : v.fault ≡ 0) (t : Taken) where
+module _ {ws : List ℕ} (k : Holding ws) (l : List ℕ) (q : ℕ) {x : Result Varint Fault} (e : x ≡ read_at l q) {v : Varint} (h : x ≡ Ok v) (t : Result ℕ Refusal) where
   pub tag_1 : v.value % 8 ≡ 1 → t ≡ fixed_at (length l - v.next) v.next (v.value / 8) 8 → Takes (field_at l q (message_in ws)) t ws
   tag_1 p g = with_payload l q (message_in ws) e h t ws (payload_1 (v.value % 8) (drop v.next l) p) (fixed-taken k l v.next (v.value / 8) 8 t g)
 
@@ -162,9 +166,6 @@ pub record Going (l ws : List ℕ) (at : ℕ) : Type 0 where
   pub spot : at ≤ length l
   pub same : read_row (row (drop at l)) (message_in ws) ≡ read l
 
-pub start-length : {ws : List ℕ} → ws ≡ conf_state_words no_conf_state → length ws ≡ 261
-start-length e = ap length e ∙ words-length no_conf_state few_none
-
 pub going_start : (l : List ℕ) {ws : List ℕ} → ws ≡ conf_state_words no_conf_state → Going l ws 0
 unfolding read
 going_start l {ws} e =
@@ -177,18 +178,18 @@ going_start l {ws} e =
     }
 
 -- what comes of a field at `at`
-abbrev Comes : List ℕ → ℕ → Taken → List ℕ → Step → Type 0
-Comes l at t ws (stop e) = (read l ≡ refused e) × ((t.fault ≡ e) × (e ≡ 0 → ⊥))
-Comes l at t ws (go m n) = (t ≡ record { fault = 0; next = n }) × (Going l ws n × (at < n))
+abbrev Comes : List ℕ → ℕ → Result ℕ Refusal → List ℕ → Step → Type 0
+Comes l at t ws (stop e) = (read l ≡ refused e) × ((told t ≡ e) × (e ≡ 0 → ⊥))
+Comes l at t ws (go m n) = (t ≡ Ok n) × (Going l ws n × (at < n))
 
 module _ {l ws : List ℕ} {at : ℕ} (g : Going l ws at) where
-  pub going_end : length l ≤ at → Reads (read l) 0 ws
+  pub going_end : length l ≤ at → Reads (read l) (Ok tt) ws
   unfolding Reads read_row
   going_end h =
       let a : read l ≡ taken (message_in ws) = sym g.same ∙ ap (λ (r : List ℕ). read_row (row r) (message_in ws)) (drop_of_length-le l h) ∙ ap (λ r. read_row r (message_in ws)) row-end in
-      subst (λ (r : Read). Reads r 0 ws) (sym a) (refl, g.holds.words)
+      subst (λ (r : Read). Reads r (Ok tt) ws) (sym a) (refl, g.holds.words)
 
-  module _ (h : at < length l) (t : Taken) (new : List ℕ) (w : Takes (field_at l at (message_in ws)) t new) where
+  module _ (h : at < length l) (t : Result ℕ Refusal) (new : List ℕ) (w : Takes (field_at l at (message_in ws)) t new) where
     comes : Comes l at t new (step_in at (message_in ws) (field_in (drop at l)))
     unfolding Takes read_row
     comes = by (field_in (drop at l)) refl (subst (λ (s : Step). Takes s t new) (step_of l at (message_in ws)) w)
@@ -222,17 +223,22 @@ module _ {l ws : List ℕ} {at : ℕ} (g : Going l ws at) where
         by (bad e) x y = (sym g.same ∙ ap (λ r. read_row r (message_in ws)) (row-bad (drop at l) some x), (y, λ z. omega (arith, (field-named (drop at l) x).0)))
         by (found f n) x y = after f n x (entered f (message_in ws)) refl y
 
-    pub going_stop : (t.fault ≡ 0 → ⊥) → Reads (read l) t.fault new
+    pub going_stop : {d : Refusal} {r : Result (Unit {0}) Refusal} → t ≡ Err d → r ≡ Err d → Reads (read l) r new
     unfolding Reads
-    going_stop f = by (step_in at (message_in ws) (field_in (drop at l))) comes
+    going_stop {d} {r} f g = by (step_in at (message_in ws) (field_in (drop at l))) comes
       where
-        by : (s : Step) → Comes l at t new s → Reads (read l) t.fault new
-        by (stop e) c = subst (λ (r : Read). Reads r t.fault new) (sym c.0) c.1.0
-        by (go m n) c = absurd (f (ap (λ (y : Taken). y.fault) c.0))
+        same : told r ≡ told t
+        same = rw (f, g)
 
-    pub going_next : t.fault ≡ 0 → Going l new t.next × (at < t.next)
-    going_next f = by (step_in at (message_in ws) (field_in (drop at l))) comes
+        by : (s : Step) → Comes l at t new s → Reads (read l) r new
+        by (stop e) c = subst (λ (y : Read). Reads y r new) (sym c.0) (same ∙ c.1.0)
+        by (go m n) c = absurd (named d (sym (ap told f) ∙ ap told c.0))
+
+    pub going_next : {n : ℕ} → t ≡ Ok n → Going l new n × (at < n)
+    going_next {n} f = by (step_in at (message_in ws) (field_in (drop at l))) comes
       where
-        by : (s : Step) → Comes l at t new s → Going l new t.next × (at < t.next)
-        by (stop e) c = absurd (c.1.1 (sym c.1.0 ∙ f))
-        by (go m n) c = subst (λ (j : ℕ). Going l new j × (at < j)) (sym (ap (λ (y : Taken). y.next) c.0)) c.1
+        by : (s : Step) → Comes l at t new s → Going l new n × (at < n)
+        by (stop e) c = absurd (c.1.1 (sym c.1.0 ∙ ap told f))
+        by (go m k) c =
+            let e : k ≡ n = cc (c.0, f) in
+            subst (λ (j : ℕ). Going l new j × (at < j)) e c.1

@@ -11,13 +11,17 @@ use lib.ListN.{length, drop, get_or, set, length-append, length-set}
 use lib.Seq.{sets, length-sets}
 use Rattle.text.specs.Put.{Put, last}
 use Rattle.text.proofs.Laws.{sets_append, put_none, put_then, put-length, put_whole}
+use Rattle.std.specs.Prelude.{Result, Err}
 use Rattle.rules.specs.State.{ConfState}
 use Rattle.rules.specs.Wire.{groups, varint_of}
 use Rattle.rules.specs.Message.{packed_of, list_field, flag_field, encoded, overlong, number_written, buffer_written}
 use Rattle.confstate.specs.Words.{at, list_in, message_in, is_conf_state}
 use Rattle.confstate.specs.Entries.{write_number, write_answer, write_leaves}
 use Rattle.confstate.specs.Sizes.{refusal_of, Writable, Listable, sizes_of}
+use Rattle.confstate.specs.Unwritten.{unwritten_number, said, answered}
 use Rattle.confstate.specs.declared.write.Sizes.{Sizes}
+use Rattle.confstate.specs.declared.write.Unwritten.{Unwritten}
+use Rattle.confstate.specs.declared.write.Unwritten.TheVariants.{NoConfState, LongList, SmallOutput}
 use Rattle.confstate.proofs.Sizing.{packed-at, packed-past, list_none, list_some, block_1, block_2, block_3, block_4, is-conf-state}
 
 -- a text that fits ends in the slice
@@ -205,7 +209,7 @@ module _ {ws : List ℕ} {z : Sizes} (l : List ℕ) (h : length l ≤ last) (r :
 abbrev small : List ℕ → List ℕ → ℕ
 small ws old = cond (ltb (length old) (length (encoded (message_in ws)))) 31 0
 
-pub answer-refused : (ws old : List ℕ) {n : ℕ} → n ≡ refusal_of ws → (n ≡ 0 → ⊥)
+answer-refused : (ws old : List ℕ) {n : ℕ} → n ≡ refusal_of ws → (n ≡ 0 → ⊥)
     → (4294967296 + n ≡ write_answer ws (length old)) × (old ≡ write_leaves ws old)
 unfolding refusal_of write_number write_answer write_leaves number_written buffer_written
 answer-refused ws old {n} e h = by (is_conf_state ws) (overlong (message_in ws)) e
@@ -216,6 +220,18 @@ answer-refused ws old {n} e h = by (is_conf_state ws) (overlong (message_in ws))
     by true true e = (omega arith, refl)
     by true false e = absurd (h e)
     by false o e = (omega arith, refl)
+
+number-some : (d : Unwritten) → unwritten_number d ≡ 0 → ⊥
+number-some NoConfState e = omega arith
+number-some LongList e = omega arith
+number-some SmallOutput e = omega arith
+
+pub answer-unwritten : (ws old : List ℕ) {x : Result (Unit {0}) Unwritten} {r : Result ℕ Unwritten} {d : Unwritten} → said x ≡ refusal_of ws → x ≡ Err d → r ≡ Err d
+    → (answered r ≡ write_answer ws (length old)) × (old ≡ write_leaves ws old)
+answer-unwritten ws old {x} {r} {d} e y z =
+    let n : unwritten_number d ≡ refusal_of ws = sym (ap said y) ∙ e in
+    let a = answer-refused ws old n (number-some d) in
+    (ap answered z ∙ a.0, a.1)
 
 module _ {ws : List ℕ} (w : Writable ws) where
   words-yes : is_conf_state ws ≡ true

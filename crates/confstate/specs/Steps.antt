@@ -1,11 +1,13 @@
 -- What the functions under the reader give, in the rules' words (crates/rules/specs/Wire.antt, Message.antt): of something refused only its number.
 -- Assumes nothing.
-use Rattle.std.specs.Prelude.{ℕ, ◌+◌, ◌/◌, ◌%◌, ◌≤◌, ◌≡◌, ◌&&◌, cond, List, leb, ltb, length, drop}
+use Rattle.std.specs.Prelude.{ℕ, ◌+◌, ◌/◌, ◌%◌, ◌≤◌, ◌≡◌, ◌&&◌, cond, List, leb, ltb, length, drop, Result, Ok, Err}
 use Rattle.rules.specs.State.{ConfState}
 use Rattle.rules.specs.Wire.{Found, bad, found, Payload, numbered, payload_in, varint_in}
 use Rattle.rules.specs.Message.{Few64, Numbers, faulty, all, Read, refused, taken, entered}
 use Rattle.confstate.specs.Words.{list_words, conf_state_words, list_in, message_in}
-use Rattle.confstate.specs.declared.read.Taken.{Taken}
+use Rattle.confstate.specs.Refusals.{told}
+use Rattle.confstate.specs.declared.read.Refusal.{Refusal}
+use Rattle.confstate.specs.declared.read.Refusal.TheVariants.{CutShort, Malformed}
 
 -- words that are those of a message, and of a list
 pub record Holding (ws : List ℕ) : Type 0 where
@@ -19,14 +21,14 @@ pub record Listing (ws : List ℕ) : Type 0 where
   pub few : length (list_in ws 0) ≤ 64
 
 -- numbers put after a list: what is told, and the list's words
-unfoldable pub Grows : Numbers → ℕ → List ℕ → Type 0
-Grows (faulty e) r ws = r ≡ e
-Grows (all xs) r ws = (r ≡ 0) × (ws ≡ list_words xs)
+unfoldable pub Grows : Numbers → Result (Unit {0}) Refusal → List ℕ → Type 0
+Grows (faulty e) r ws = told r ≡ e
+Grows (all xs) r ws = (told r ≡ 0) × (ws ≡ list_words xs)
 
 -- all fields: what is told, and the message's words
-unfoldable pub Reads : Read → ℕ → List ℕ → Type 0
-Reads (refused e) r ws = r ≡ e
-Reads (taken m) r ws = (r ≡ 0) × (ws ≡ conf_state_words m)
+unfoldable pub Reads : Read → Result (Unit {0}) Refusal → List ℕ → Type 0
+Reads (refused e) r ws = told r ≡ e
+Reads (taken m) r ws = (told r ≡ 0) × (ws ≡ conf_state_words m)
 
 -- ** One field
 
@@ -35,9 +37,9 @@ pub data Step : Type 0 where
   stop : ℕ → Step
   go : ConfState → ℕ → Step
 
-unfoldable pub Takes : Step → Taken → List ℕ → Type 0
-Takes (stop e) t ws = t.fault ≡ e
-Takes (go m n) t ws = (t ≡ record { fault = 0; next = n }) × (ws ≡ conf_state_words m)
+unfoldable pub Takes : Step → Result ℕ Refusal → List ℕ → Type 0
+Takes (stop e) t ws = told t ≡ e
+Takes (go m n) t ws = (t ≡ Ok n) × (ws ≡ conf_state_words m)
 
 abbrev pub closed : ℕ → Read → Step
 closed n (refused e) = stop e
@@ -57,6 +59,5 @@ unfoldable pub field_at : List ℕ → ℕ → ConfState → Step
 field_at l q m = tagged_at l q m (varint_in (drop q l))
 
 -- a field of eight or four bytes, which only an unknown one may have; `room` bytes are left
-unfoldable pub fixed_at : ℕ → ℕ → ℕ → ℕ → Taken
-fixed_at room q f n =
-    cond (leb n room) (cond (numbered f && ltb 5 f) (record { fault = 0; next = q + n }) (record { fault = 29; next = 0 })) (record { fault = 28; next = 0 })
+unfoldable pub fixed_at : ℕ → ℕ → ℕ → ℕ → Result ℕ Refusal
+fixed_at room q f n = cond (leb n room) (cond (numbered f && ltb 5 f) (Ok (q + n)) (Err Malformed)) (Err CutShort)

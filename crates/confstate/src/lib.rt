@@ -5,6 +5,12 @@
 pub mod read; // bytes to words
 pub mod write; // words to bytes
 
+// How many ids a list holds; the word after them is their count.
+const IDS: usize = 64;
+
+// How many words a list takes.
+const LIST: usize = IDS + 1;
+
 // How many words there are.
 pub const WORDS: usize = 261;
 

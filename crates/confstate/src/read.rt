@@ -1,20 +1,59 @@
-// The reader. Refusals: 28, 29, 30; the first faulty field's, and within it the lower.
-ghost use Rattle.std.specs.Prelude.{◌≡◌, not, cond, [], ◌∷◌, ◌-◌, ◌≤◌, ◌<◌, eqb, ltb, length, drop, replicate, set};
+// The reader. The first faulty field's refusal is given, and within it the lower.
+ghost use Rattle.std.specs.Prelude.{◌≡◌, not, cond, [], ◌∷◌, ◌-◌, ◌≤◌, ◌<◌, eqb, ltb, length, drop, set};
 ghost use Rattle.rules.specs.Apply.{no_conf_state};
 ghost use Rattle.rules.specs.Wire.{numbered, single as single_of, length_in, varint_in};
-ghost use Rattle.rules.specs.Message.{all, grown, packed as packed_in, read as read_of};
-ghost use Rattle.confstate.specs.Words.{flag_word, conf_state_words, list_in, message_in};
+ghost use Rattle.rules.specs.Message.{all, faulty, grown, lower, packed as packed_in, read as read_of};
+ghost use Rattle.confstate.specs.Words.{conf_state_words, flag_word, list_in, message_in};
 ghost use Rattle.confstate.specs.Entries.{read_answer, read_leaves};
+ghost use Rattle.confstate.specs.Refusals.{number_of, refusal_for};
 ghost use Rattle.confstate.specs.Steps.{Holding, Listing, Grows, Reads, Takes, held_at, field_at, fixed_at};
 
-use crate::WORDS;
+use crate::{FLAG, IDS, LIST, WORDS};
+use wire::Fault;
 
-// What came of a field: 0, or its refusal; and the place after it.
-#[derive(Clone, Copy)]
-struct Taken {
-    fault: u64,
-    next: usize,
+// Why a message is refused.
+#[derive(Clone, Copy, Debug, PartialEq, Eq)]
+enum Refusal {
+    // It ends within a field.
+    CutShort,
+    // A field is none, or none of its number's.
+    Malformed,
+    // A list of more than 64 ids.
+    LongList,
 }
+
+impl Refusal {
+    fn number(self) -> u64
+        ensures { result ≡ number_of self }
+    {
+        match self {
+            Refusal::CutShort => 28,
+            Refusal::Malformed => 29,
+            Refusal::LongList => 30,
+        }
+    }
+}
+
+impl From<Fault> for Refusal {
+    ghost from_gives = { λ fault refusal. refusal ≡ refusal_for fault };
+
+    fn from(fault: Fault) -> Refusal {
+        match fault {
+            Fault::CutShort => Refusal::CutShort,
+            Fault::Malformed { .. } => Refusal::Malformed,
+        }
+    }
+}
+
+// What is told of a message that is read, and of too few words.
+const READ: u64 = 0;
+
+const TOO_FEW_WORDS: u64 = 100;
+
+// The numbers of the fields: the lists in the order of their words, then the flag; those after it are unknown.
+const FLAG_FIELD: u64 = 5;
+
+const LAST_FIELD: u64 = 536870911;
 
 // Reads a message into the words of a CONFSTATE: 0; or the refusal, and four empty lists and a false flag. The words after them are kept. Less than 261
 // words: 100, and they are as they were.
@@ -22,76 +61,46 @@ pub fn read(bytes: &[u8], conf_state: &mut [u64]) -> u64
     ensures { (result ≡ read_answer bytes.now (length conf_state.old)) × (conf_state.new ≡ read_leaves bytes.now conf_state.old) }
 {
     if conf_state.len() < WORDS {
-        return 100;
+        return TOO_FEW_WORDS;
     }
-    clear(&mut conf_state[0..WORDS]);
-    let number = fields(bytes, &mut conf_state[0..WORDS]);
-    if number == 0 {
-        return 0;
-    }
-    clear(&mut conf_state[0..WORDS]);
-    number
-}
-
-// Four empty lists and a false flag.
-fn clear(words: &mut [u64])
-    ensures { words.new ≡ replicate (length words.old) 0 }
-{
-    let mut i = 0;
-    while i < words.len() {
-        words[i] = 0;
-        i += 1;
+    let words = &mut conf_state[..WORDS];
+    words.fill(0);
+    match fields(bytes, words) {
+        Ok(()) => READ,
+        Err(refusal) => {
+            words.fill(0);
+            refusal.number()
+        }
     }
 }
 
 // The fields, one after the other, up to the first refusal.
-fn fields(bytes: &[u8], words: &mut [u64]) -> u64
+fn fields(bytes: &[u8], words: &mut [u64]) -> Result<(), Refusal>
     requires { words.old ≡ conf_state_words no_conf_state }
     ensures { Reads (read_of bytes.now) result words.new }
 {
     let mut at = 0;
+
+    // A while: a step is as long as the field that was read.
     while at < bytes.len() {
-        let t = field(bytes, at, words);
-        if t.fault != 0 {
-            return t.fault;
-        }
-        at = t.next;
+        at = field(bytes, at, words)?;
     }
-    0
+    Ok(())
 }
 
-// The field at `at`: its tag, then what it holds, by its wire type.
-fn field(bytes: &[u8], at: usize, words: &mut [u64]) -> Taken
+// The field at `at`: its tag, then what it holds, by its wire type. The place after it.
+fn field(bytes: &[u8], at: usize, words: &mut [u64]) -> Result<usize, Refusal>
     requires { Holding words.old }
     ensures { Takes (field_at bytes.now at (message_in words.old)) result words.new }
 {
-    let tag = wire::read_varint(bytes, at);
-    if tag.fault != 0 {
-        return refused(tag.fault);
-    }
+    let tag = wire::read_varint(bytes, at)?;
     let number = tag.value / 8;
-    let kind = tag.value % 8;
-    if kind == 2 {
-        return length_field(bytes, tag.next, number, words);
-    }
-    if kind == 0 {
-        return varint_field(bytes, tag.next, number, words);
-    }
-    if kind == 1 {
-        return fixed_field(bytes, tag.next, number, 8);
-    }
-    if kind == 5 {
-        return fixed_field(bytes, tag.next, number, 4);
-    }
-    refused(29)
-}
-
-fn refused(number: u64) -> Taken
-    ensures { result ≡ record { fault = number; next = 0 } }
-{
-    Taken {
-        fault: number,
-        next: 0,
+    match tag.value % 8 {
+        0 => varint_field(bytes, tag.next, number, words),
+        1 => fixed_field(bytes, tag.next, number, 8),
+        2 => length_field(bytes, tag.next, number, words),
+        5 => fixed_field(bytes, tag.next, number, 4),
+        _ => Err(Refusal::Malformed),
     }
 }
 
@@ -99,157 +108,141 @@ fn refused(number: u64) -> Taken
 fn misnumbered(number: u64) -> bool
     ensures { result ≡ not (numbered number) }
 {
-    if number == 0 {
-        return true;
-    }
-    536870911 < number
+    number == 0 || LAST_FIELD < number
 }
 
 // A varint: a number of a list, or the flag.
-fn varint_field(bytes: &[u8], at: usize, number: u64, words: &mut [u64]) -> Taken
+fn varint_field(bytes: &[u8], at: usize, number: u64, words: &mut [u64]) -> Result<usize, Refusal>
     requires { Holding words.old }
     ensures { Takes (held_at at number (message_in words.old) (single_of (varint_in (drop at bytes.now)))) result words.new }
 {
-    let v = wire::read_varint(bytes, at);
-    if v.fault != 0 {
-        return refused(v.fault);
-    }
+    let v = wire::read_varint(bytes, at)?;
     if misnumbered(number) {
-        return refused(29);
+        return Err(Refusal::Malformed);
     }
-    if number < 5 {
-        let k = 65 * (number as usize - 1);
-        return Taken {
-            fault: single(v.value, &mut words[k..k + 65]),
-            next: v.next,
-        };
+    if number < FLAG_FIELD {
+        let k = LIST * (number as usize - 1);
+        single(v.value, &mut words[k..k + LIST])?;
+        return Ok(v.next);
     }
-    if number == 5 {
-        words[260] = flag(v.value);
-        return Taken {
-            fault: 0,
-            next: v.next,
-        };
+    if number == FLAG_FIELD {
+        words[FLAG] = flag(v.value);
     }
-    Taken {
-        fault: 0,
-        next: v.next,
-    }
+    Ok(v.next)
 }
 
 // Any number but 0 is true.
 fn flag(value: u64) -> u64
     ensures { result ≡ flag_word (not (eqb value 0)) }
 {
-    if value == 0 { 0 } else { 1 }
+    u64::from(value != 0)
 }
 
 // A length and as many bytes: the numbers of a list, packed.
-fn length_field(bytes: &[u8], at: usize, number: u64, words: &mut [u64]) -> Taken
+fn length_field(bytes: &[u8], at: usize, number: u64, words: &mut [u64]) -> Result<usize, Refusal>
     requires { Holding words.old }
     ensures { Takes (held_at at number (message_in words.old) (length_in (drop at bytes.now) (varint_in (drop at bytes.now)))) result words.new }
 {
-    let v = wire::read_varint(bytes, at);
-    if v.fault != 0 {
-        return refused(v.fault);
-    }
+    let v = wire::read_varint(bytes, at)?;
     let start = v.next;
     let left = bytes.len() - start;
     if (left as u64) < v.value {
-        return refused(28);
+        return Err(Refusal::CutShort);
     }
     if misnumbered(number) {
-        return refused(29);
+        return Err(Refusal::Malformed);
     }
     let end = start + v.value as usize;
-    if number < 5 {
-        let k = 65 * (number as usize - 1);
-        return Taken {
-            fault: packed(&bytes[start..end], &mut words[k..k + 65]),
-            next: end,
-        };
+    if number < FLAG_FIELD {
+        let k = LIST * (number as usize - 1);
+        packed(&bytes[start..end], &mut words[k..k + LIST])?;
+        return Ok(end);
     }
-    if number == 5 {
-        return refused(29);
+    if number == FLAG_FIELD {
+        return Err(Refusal::Malformed);
     }
-    Taken {
-        fault: 0,
-        next: end,
-    }
+    Ok(end)
 }
 
 // So many bytes, which only an unknown field may have.
-fn fixed_field(bytes: &[u8], at: usize, number: u64, size: usize) -> Taken
+fn fixed_field(bytes: &[u8], at: usize, number: u64, size: usize) -> Result<usize, Refusal>
     requires { at ≤ length bytes.now }
     ensures { result ≡ fixed_at (length bytes.now - at) at number size }
 {
     if bytes.len() - at < size {
-        return refused(28);
+        return Err(Refusal::CutShort);
     }
-    if misnumbered(number) {
-        return refused(29);
+    if misnumbered(number) || number <= FLAG_FIELD {
+        return Err(Refusal::Malformed);
     }
-    if number < 6 {
-        return refused(29);
-    }
-    Taken {
-        fault: 0,
-        next: at + size,
-    }
+    Ok(at + size)
 }
 
 // One number after those of a list.
-fn single(value: u64, list: &mut [u64]) -> u64
+fn single(value: u64, list: &mut [u64]) -> Result<(), Refusal>
     requires { Listing list.old }
     ensures { Grows (grown (list_in list.old 0) (all (value ∷ []))) result list.new }
 {
-    let n = list[64] as usize;
-    if 64 <= n {
-        return 30;
+    let n = list[IDS] as usize;
+    if IDS <= n {
+        return Err(Refusal::LongList);
     }
     list[n] = value;
-    list[64] = n as u64 + 1;
-    0
+    list[IDS] = n as u64 + 1;
+    Ok(())
 }
 
-// Packed numbers after those of a list, those of one byte first. A cut one ends it; that one was over, or that there are more than 64, is told at the end.
-fn packed(bytes: &[u8], list: &mut [u64]) -> u64
+// Packed numbers after those of a list, those of one byte first. A cut one ends it; that there are more than 64 is told at the end.
+fn packed(bytes: &[u8], list: &mut [u64]) -> Result<(), Refusal>
     requires { Listing list.old }
     ensures { Grows (grown (list_in list.old 0) (packed_in bytes.now)) result list.new }
 {
-    let mut n = list[64] as usize;
-    let mut over = false;
+    let mut n = list[IDS] as usize;
     let mut p = 0;
+
+    // A while: a step is as long as the number that was read.
     while p < bytes.len() {
-        let b = bytes[p] as u64;
+        let b = u64::from(bytes[p]);
         if b < 128 {
             store(list, n, b);
             n += 1;
             p += 1;
             continue;
         }
-        let v = wire::read_varint(bytes, p);
-        let cut = v.fault == 28;
-        if cut {
-            return 28;
+        match wire::read_varint(bytes, p) {
+            Ok(v) => {
+                store(list, n, v.value);
+                n += 1;
+                p = v.next;
+            }
+            Err(Fault::CutShort) => return Err(Refusal::CutShort),
+            Err(Fault::Malformed { next }) => return Err(refusal_past(bytes, next)),
         }
-        p = v.next;
-        if v.fault == 0 {
-            store(list, n, v.value);
-            n += 1;
-            continue;
-        }
-        over = true;
     }
-    if over {
-        return 29;
-    }
-    let too_many = 64 < n;
+    let too_many = IDS < n;
     if too_many {
-        return 30;
+        return Err(Refusal::LongList);
     }
-    list[64] = n as u64;
-    0
+    list[IDS] = n as u64;
+    Ok(())
+}
+
+// What is told of packed numbers of which one was malformed, and the rest begins at `at`: that, or that one is cut short.
+fn refusal_past(bytes: &[u8], at: usize) -> Refusal
+    requires { at ≤ length bytes.now }
+    ensures { lower 29 (packed_in (drop at bytes.now)) ≡ faulty (number_of result) }
+{
+    let mut p = at;
+
+    // A while: a step is as long as the number that was read.
+    while p < bytes.len() {
+        match wire::read_varint(bytes, p) {
+            Ok(v) => p = v.next,
+            Err(Fault::Malformed { next }) => p = next,
+            Err(Fault::CutShort) => return Refusal::CutShort,
+        }
+    }
+    Refusal::Malformed
 }
 
 // The id at place `n` of a list, where it has that place.
@@ -257,7 +250,7 @@ fn store(list: &mut [u64], n: usize, value: u64)
     requires { length list.old ≡ 65 }
     ensures { list.new ≡ cond (ltb n 64) (set list.old n value) list.old }
 {
-    if n < 64 {
+    if n < IDS {
         list[n] = value;
     }
 }

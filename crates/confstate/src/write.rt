@@ -1,12 +1,36 @@
-// The writer: one encoding for each message. Refusals: 1, the words are no CONFSTATE; 2, a list over 64; 31, output too small.
+// The writer: one encoding for each message.
 ghost use Rattle.std.specs.Prelude.{◌≡◌, ◌+◌, ◌*◌, ◌≤◌, ◌<◌, eqb, length};
 ghost use Rattle.rules.specs.Message.{packed_of, list_field, flag_field, encoded};
 ghost use Rattle.text.specs.Put.{Put};
 ghost use Rattle.confstate.specs.Words.{list_in, message_in};
 ghost use Rattle.confstate.specs.Entries.{write_answer, write_leaves};
+ghost use Rattle.confstate.specs.Unwritten.{unwritten_number, answered, said};
 ghost use Rattle.confstate.specs.Sizes.{refusal_of, sizes_of, field_size, total_of, Writable, Block, Listable};
 
-use crate::{FLAG, LEARNERS, NEXT, OUTGOING, VOTERS, WORDS};
+use crate::{FLAG, IDS, LEARNERS, NEXT, OUTGOING, VOTERS, WORDS};
+
+// Why a message is not written.
+#[derive(Clone, Copy, Debug, PartialEq, Eq)]
+enum Unwritten {
+    // The words are no CONFSTATE.
+    NoConfState,
+    // A list of more than 64 ids.
+    LongList,
+    // The bytes are too few.
+    SmallOutput,
+}
+
+impl Unwritten {
+    fn number(self) -> u64
+        ensures { result ≡ unwritten_number self }
+    {
+        match self {
+            Unwritten::NoConfState => 1,
+            Unwritten::LongList => 2,
+            Unwritten::SmallOutput => 31,
+        }
+    }
+}
 
 // How many bytes the numbers of each list take.
 #[derive(Clone, Copy)]
@@ -17,44 +41,62 @@ struct Sizes {
     next: usize,
 }
 
+// What is added to the number of a refusal: more than any length.
+const REFUSED: u64 = 4294967296;
+
+// The tag of a list, less its field's number times 8: a length and as many bytes.
+const LIST_TAG: u8 = 2;
+
+// The tag of the flag: field 5, a varint.
+const FLAG_TAG: u8 = 8 * 5;
+
 // Writes the message to the front of `bytes`: its length. Else 2^32 and the refusal, and the bytes are as they were.
 pub fn write(conf_state: &[u64], bytes: &mut [u8]) -> u64
     ensures { (result ≡ write_answer conf_state.now (length bytes.old)) × (bytes.new ≡ write_leaves conf_state.now bytes.old) }
 {
-    let number = refusal(conf_state);
-    if number != 0 {
-        return 4294967296 + number;
+    match write_message(conf_state, bytes) {
+        Ok(length) => length as u64,
+        Err(refusal) => REFUSED + refusal.number(),
     }
-    let s = count(conf_state);
-    if bytes.len() < total(s, conf_state[FLAG]) {
-        return 4294967296 + 31;
-    }
-    put_message(bytes, s, conf_state) as u64
 }
 
-// 1, 2, or 0.
-fn refusal(words: &[u64]) -> u64
-    ensures { result ≡ refusal_of words.now }
+// The same, its length or why not.
+fn write_message(conf_state: &[u64], bytes: &mut [u8]) -> Result<usize, Unwritten>
+    ensures { (answered result ≡ write_answer conf_state.now (length bytes.old)) × (bytes.new ≡ write_leaves conf_state.now bytes.old) }
 {
-    if words.len() != WORDS {
-        return 1;
+    check(conf_state)?;
+    let s = count(conf_state);
+    if bytes.len() < total(s, conf_state[FLAG]) {
+        return Err(Unwritten::SmallOutput);
     }
-    if 1 < words[FLAG] {
-        return 1;
+    Ok(put_message(bytes, s, conf_state))
+}
+
+// Whether the words are a CONFSTATE of lists that are not too long.
+fn check(words: &[u64]) -> Result<(), Unwritten>
+    ensures { said result ≡ refusal_of words.now }
+{
+    if words.len() != WORDS || 1 < words[FLAG] {
+        return Err(Unwritten::NoConfState);
     }
-    if 64 < words[64] {
-        return 2;
+    let most = IDS as u64;
+    if most < words[VOTERS + IDS]
+        || most < words[LEARNERS + IDS]
+        || most < words[OUTGOING + IDS]
+        || most < words[NEXT + IDS]
+    {
+        return Err(Unwritten::LongList);
     }
-    if 64 < words[129] {
-        return 2;
-    }
-    if 64 < words[194] {
-        return 2;
-    }
-    if 64 < words[259] {
-        return 2;
-    }
-    0
+    Ok(())
+}
+
+// The ids of the list at word `start`.
+fn ids(words: &[u64], start: usize) -> &[u64]
+    requires { Block words.now start }
+    ensures { result.now ≡ list_in words.now start }
+{
+    let n = words[start + IDS] as usize;
+    &words[start..start + n]
 }
 
 // How many bytes the numbers of the four lists take.
@@ -63,20 +105,11 @@ fn count(words: &[u64]) -> Sizes
     ensures { result ≡ sizes_of (message_in words.now) }
 {
     Sizes {
-        voters: list_size(words, VOTERS),
-        learners: list_size(words, LEARNERS),
-        outgoing: list_size(words, OUTGOING),
-        next: list_size(words, NEXT),
+        voters: packed_size(ids(words, VOTERS)),
+        learners: packed_size(ids(words, LEARNERS)),
+        outgoing: packed_size(ids(words, OUTGOING)),
+        next: packed_size(ids(words, NEXT)),
     }
-}
-
-// How many bytes the numbers of the list at word k take.
-fn list_size(words: &[u64], k: usize) -> usize
-    requires { Block words.now k }
-    ensures { result ≡ length (packed_of (list_in words.now k)) }
-{
-    let n = words[k + 64] as usize;
-    packed_size(&words[k..k + n])
 }
 
 // How many bytes the numbers take, one after the other.
@@ -85,10 +118,8 @@ fn packed_size(ids: &[u64]) -> usize
     ensures { result ≡ length (packed_of ids.now) }
 {
     let mut n = 0;
-    let mut i = 0;
-    while i < ids.len() {
-        n += wire::size(ids[i]);
-        i += 1;
+    for id in ids {
+        n += wire::size(*id);
     }
     n
 }
@@ -128,18 +159,25 @@ fn put_message(out: &mut [u8], s: Sizes, words: &[u64]) -> usize
     put_flag(out, d, words[FLAG])
 }
 
-// The field of the list at word k: its tag, the length, the numbers. An empty list has none.
-fn put_list(out: &mut [u8], at: usize, number: u8, packed: usize, words: &[u64], k: usize) -> usize
-    requires { Listable number at packed words.now k (length out.old) }
-    ensures { Put out.old at (list_field number (list_in words.now k)) out.new result }
+// The field of the list at word `start`: its tag, the length, the numbers. An empty list has none. It is not lent the ids: the count, were it read before the
+// bytes are put, would be kept in memory through the loop over them, which then takes a third longer.
+fn put_list(
+    out: &mut [u8],
+    at: usize,
+    number: u8,
+    packed: usize,
+    words: &[u64],
+    start: usize,
+) -> usize
+    requires { Listable number at packed words.now start (length out.old) }
+    ensures { Put out.old at (list_field number (list_in words.now start)) out.new result }
 {
     if packed == 0 {
         return at;
     }
-    out[at] = 8 * number + 2;
+    out[at] = 8 * number + LIST_TAG;
     let p = wire::put_varint(out, at + 1, packed as u64);
-    let n = words[k + 64] as usize;
-    put_packed(out, p, &words[k..k + n])
+    put_packed(out, p, ids(words, start))
 }
 
 // The numbers one after the other.
@@ -148,10 +186,8 @@ fn put_packed(out: &mut [u8], at: usize, ids: &[u64]) -> usize
     ensures { Put out.old at (packed_of ids.now) out.new result }
 {
     let mut p = at;
-    let mut i = 0;
-    while i < ids.len() {
-        p = wire::put_varint(out, p, ids[i]);
-        i += 1;
+    for id in ids {
+        p = wire::put_varint(out, p, *id);
     }
     p
 }
@@ -164,7 +200,7 @@ fn put_flag(out: &mut [u8], at: usize, flag: u64) -> usize
     if flag == 0 {
         return at;
     }
-    out[at] = 40;
+    out[at] = FLAG_TAG;
     out[at + 1] = 1;
     at + 2
 }

@@ -1,8 +1,9 @@
 // A call made on a state, and a line printed: what is asked, in the paper's words, and what is answered. An accepted answer is applied; the state that is
 // left comes back.
-use crate::given::{Changes, fresh};
-use crate::{answered, say};
+use crate::answered::{Checked, Restored, Told};
+use crate::given::{Change, Changes, fresh};
 use changer::{Answer, enter_joint, leave_joint};
+use progress::Progress;
 use restore::apply_answer;
 use std::io;
 use tracker::{ConfState, Outcome, Tracker};
@@ -10,80 +11,85 @@ use tracker::{ConfState, Outcome, Tracker};
 // The `next_idx` of the records that a call makes.
 const NEXT_IDX: u64 = 77;
 
+// One change more than a list may have, so that the refusal can be asked for.
+const MOST: usize = changes::MAX_CHANGES + 1;
+
 // `simple` with this list.
-pub(crate) fn simple<'a>(
+pub(crate) fn simple(
     rt: &impl Print,
-    asked: &[u8],
+    asked: &str,
     t: Tracker,
-    ids: &'a [u64],
-    kinds: &'a [u8],
+    list: &[Change],
 ) -> io::Result<Tracker> {
-    told(rt, asked, t, changer::simple(t, ids, kinds))
+    let n = list.len().min(MOST);
+    let ids = ids_of(list);
+    let kinds = kinds_of(list);
+    told(rt, asked, t, changer::simple(t, &ids[..n], &kinds[..n]))
 }
 
 // `enter_joint` with this list, without auto leave.
-pub(crate) fn enter<'a>(
+pub(crate) fn enter(
     rt: &impl Print,
-    asked: &[u8],
+    asked: &str,
     t: Tracker,
-    ids: &'a [u64],
-    kinds: &'a [u8],
+    list: &[Change],
 ) -> io::Result<Tracker> {
-    told(rt, asked, t, enter_joint(t, false, ids, kinds))
+    let n = list.len().min(MOST);
+    let ids = ids_of(list);
+    let kinds = kinds_of(list);
+    told(rt, asked, t, enter_joint(t, false, &ids[..n], &kinds[..n]))
+}
+
+// The ids of a list.
+fn ids_of(list: &[Change]) -> [u64; MOST] {
+    let mut ids = [0u64; MOST];
+    for (id, change) in ids.iter_mut().zip(list) {
+        *id = change.id();
+    }
+    ids
+}
+
+// The kinds of a list.
+fn kinds_of(list: &[Change]) -> [u8; MOST] {
+    let mut kinds = [0u8; MOST];
+    for (kind, change) in kinds.iter_mut().zip(list) {
+        *kind = change.kind();
+    }
+    kinds
 }
 
 // `enter_joint` with a list that says itself what is asked.
 pub(crate) fn enter_list(
     rt: &impl Print,
-    asked: &[u8],
+    asked: &str,
     t: Tracker,
     list: Changes,
 ) -> io::Result<Tracker> {
-    say::words(rt, asked)?;
-    answered::say_changes(rt, &list)?;
-    enter_first(rt, t, &list.ids, &list.kinds, list.len)
-}
-
-// `enter_joint` with the first `n` of these.
-fn enter_first<'a>(
-    rt: &impl Print,
-    t: Tracker,
-    ids: &'a [u64],
-    kinds: &'a [u8],
-    n: usize,
-) -> io::Result<Tracker> {
-    if ids.len() < n {
-        return Ok(t);
-    }
-    if kinds.len() < n {
-        return Ok(t);
-    }
-    enter(rt, b": ", t, &ids[..n], &kinds[..n])
+    print!(rt; "{asked}enter {list}")?;
+    enter(rt, ": ", t, list.as_slice())
 }
 
 // `leave_joint`.
-pub(crate) fn leave(rt: &impl Print, asked: &[u8], t: Tracker) -> io::Result<Tracker> {
+pub(crate) fn leave(rt: &impl Print, asked: &str, t: Tracker) -> io::Result<Tracker> {
     told(rt, asked, t, leave_joint(t))
 }
 
 // A call's line; what the call leaves once it is applied.
-fn told(rt: &impl Print, asked: &[u8], t: Tracker, a: Answer) -> io::Result<Tracker> {
-    say::words(rt, asked)?;
-    answered::say_answer(rt, a)?;
-    say::words(rt, b"\n")?;
-    let o = apply_answer(t, a, NEXT_IDX);
-    Ok(o.tracker)
+fn told(rt: &impl Print, asked: &str, t: Tracker, a: Answer) -> io::Result<Tracker> {
+    let answer = Told(a);
+    println!(rt; "{asked}{answer}")?;
+    Ok(apply_answer(t, a, NEXT_IDX).tracker)
 }
 
 // `restore` of the fresh state.
-pub(crate) fn restore(rt: &impl Print, asked: &[u8], cs: ConfState) -> io::Result<Tracker> {
+pub(crate) fn restore(rt: &impl Print, asked: &str, cs: ConfState) -> io::Result<Tracker> {
     restored(rt, asked, restore::restore(fresh(), cs, NEXT_IDX))
 }
 
 // `restore_step_by_step` of the fresh state.
 pub(crate) fn restore_step_by_step(
     rt: &impl Print,
-    asked: &[u8],
+    asked: &str,
     cs: ConfState,
 ) -> io::Result<Tracker> {
     restored(
@@ -94,23 +100,30 @@ pub(crate) fn restore_step_by_step(
 }
 
 // A restore's line; the state that it leaves.
-fn restored(rt: &impl Print, asked: &[u8], o: Outcome) -> io::Result<Tracker> {
-    say::words(rt, asked)?;
-    answered::say_outcome(rt, o)?;
-    say::words(rt, b"\n")?;
+fn restored(rt: &impl Print, asked: &str, o: Outcome) -> io::Result<Tracker> {
+    let outcome = Restored(o);
+    println!(rt; "{asked}{outcome}")?;
     Ok(o.tracker)
 }
 
 // The check of a state.
-pub(crate) fn check(rt: &impl Print, asked: &[u8], t: Tracker) -> io::Result<()> {
-    say::words(rt, asked)?;
-    answered::say_check(rt, invariants::check(t))?;
-    say::words(rt, b"\n")
+pub(crate) fn check(rt: &impl Print, asked: &str, t: Tracker) -> io::Result<()> {
+    let verdict = Checked(invariants::check(t));
+    println!(rt; "{asked}{verdict}")
 }
 
 // Whether a state is in order.
-pub(crate) fn in_order(rt: &impl Print, asked: &[u8], t: Tracker) -> io::Result<()> {
-    say::words(rt, asked)?;
-    answered::say_yes(rt, invariants::in_order(t))?;
-    say::words(rt, b"\n")
+pub(crate) fn in_order(rt: &impl Print, asked: &str, t: Tracker) -> io::Result<()> {
+    let answer = if invariants::in_order(t) { "yes" } else { "no" };
+    println!(rt; "{asked}{answer}")
+}
+
+// What tells a record in use from a fresh one.
+pub(crate) fn record(rt: &impl Print, asked: &str, r: Progress) -> io::Result<()> {
+    let Progress {
+        matched,
+        next_idx,
+        ..
+    } = r;
+    println!(rt; "{asked}matched {matched}, next_idx {next_idx}")
 }

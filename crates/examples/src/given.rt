@@ -1,14 +1,46 @@
 // What the examples begin from: states, the kinds of a change, and the lists that are restored.
 use idset::IdSet;
 use restore::restore;
+use std::fmt;
 use tracker::{ConfState, IdList, Tracker};
 
-// AddNode, RemoveNode, AddLearnerNode.
-pub(crate) const ADD: u8 = 0;
+// A change of a list.
+#[derive(Clone, Copy)]
+pub(crate) enum Change {
+    Add(u64),
+    Remove(u64),
+    Learner(u64),
+}
 
-pub(crate) const REMOVE: u8 = 1;
+impl Change {
+    pub(crate) fn id(self) -> u64 {
+        match self {
+            Change::Add(id) => id,
+            Change::Remove(id) => id,
+            Change::Learner(id) => id,
+        }
+    }
 
-pub(crate) const LEARNER: u8 = 2;
+    // The kind's number: AddNode, RemoveNode, AddLearnerNode.
+    pub(crate) fn kind(self) -> u8 {
+        match self {
+            Change::Add(_) => 0,
+            Change::Remove(_) => 1,
+            Change::Learner(_) => 2,
+        }
+    }
+}
+
+// `add 2`, `remove 1`, `learner 3`.
+impl fmt::Display for Change {
+    fn fmt<W: fmt::Write>(&self, f: &mut fmt::Formatter<W>) -> fmt::Result {
+        match *self {
+            Change::Add(id) => write!(f, "add {id}"),
+            Change::Remove(id) => write!(f, "remove {id}"),
+            Change::Learner(id) => write!(f, "learner {id}"),
+        }
+    }
+}
 
 // The fresh state.
 pub(crate) fn fresh() -> Tracker {
@@ -17,8 +49,7 @@ pub(crate) fn fresh() -> Tracker {
 
 // A group with these voters and learners, each with a record whose `next_idx` is 10.
 pub(crate) fn group(voters: IdList, learners: IdList) -> Tracker {
-    let o = restore(fresh(), conf_state(voters, learners, none(), none()), 10);
-    o.tracker
+    restore(fresh(), conf_state(voters, learners, none(), none()), 10).tracker
 }
 
 // A group of voters alone.
@@ -29,13 +60,8 @@ pub(crate) fn voters(ids: &[u64]) -> Tracker {
 // Incoming (1 2), outgoing (1 2), staged (2), tracked 1 and 2: built by hand, since no calls from fresh lead there.
 pub(crate) fn stuck() -> Tracker {
     let mut t = voters(&[1, 2]);
-    let mut conf = t.conf;
-    let both = conf.incoming;
-    let two = IdSet::new().insert(2);
-    let staged = two.set;
-    conf.outgoing = both;
-    conf.learners_next = staged;
-    t.conf = conf;
+    t.conf.outgoing = t.conf.incoming;
+    t.conf.learners_next = IdSet::new().insert(2).set;
     t
 }
 
@@ -60,47 +86,64 @@ pub(crate) fn outgoing_first(cs: ConfState) -> ConfState {
     conf_state(cs.voters_outgoing, none(), none(), none())
 }
 
-// A change list: the first `len` of `ids` and of `kinds`.
+// A change list: the first `len` of these.
 #[derive(Clone, Copy)]
 pub(crate) struct Changes {
-    pub ids: [u64; changes::MAX_CHANGES],
-    pub kinds: [u8; changes::MAX_CHANGES],
-    pub len: usize,
+    changes: [Change; changes::MAX_CHANGES],
+    len: usize,
+}
+
+impl Changes {
+    fn new() -> Changes {
+        Changes {
+            changes: [Change::Add(0); changes::MAX_CHANGES],
+            len: 0,
+        }
+    }
+
+    // One change more, where there is room for it.
+    fn push(&mut self, change: Change) {
+        let n = self.len;
+        if n < changes::MAX_CHANGES {
+            self.changes[n] = change;
+            self.len = n + 1;
+        }
+    }
+
+    pub(crate) fn as_slice(&self) -> &[Change] {
+        &self.changes[..self.len.min(changes::MAX_CHANGES)]
+    }
+}
+
+// `remove 1, add 2`.
+impl fmt::Display for Changes {
+    fn fmt<W: fmt::Write>(&self, f: &mut fmt::Formatter<W>) -> fmt::Result {
+        for (i, change) in self.as_slice().iter().enumerate() {
+            if i != 0 {
+                write!(f, ", ")?;
+            }
+            write!(f, "{change}")?;
+        }
+        Ok(())
+    }
 }
 
 // The list of a restore's last step: remove each outgoing, add each voter, add-learner each learner, then each staged.
 pub(crate) fn last_step(cs: ConfState) -> Changes {
-    let none = Changes {
-        ids: [0u64; changes::MAX_CHANGES],
-        kinds: [0u8; changes::MAX_CHANGES],
-        len: 0,
-    };
-    let removed = append(none, cs.voters_outgoing, REMOVE);
-    let added = append(removed, cs.voters, ADD);
-    let learners = append(added, cs.learners, LEARNER);
-    append(learners, cs.learners_next, LEARNER)
-}
-
-// The list with a change of this kind for each id more.
-fn append(list: Changes, more: IdList, kind: u8) -> Changes {
-    let mut c = list;
-    for id in more.ids.iter().take(more.len) {
-        c = with_change(c, *id, kind);
+    let mut list = Changes::new();
+    for id in cs.voters_outgoing.ids.iter().take(cs.voters_outgoing.len) {
+        list.push(Change::Remove(*id));
     }
-    c
-}
-
-// The list with one change more, where there is room for it.
-fn with_change(list: Changes, id: u64, kind: u8) -> Changes {
-    let n = list.len;
-    if changes::MAX_CHANGES <= n {
-        return list;
+    for id in cs.voters.ids.iter().take(cs.voters.len) {
+        list.push(Change::Add(*id));
     }
-    let mut c = list;
-    c.ids[n] = id;
-    c.kinds[n] = kind;
-    c.len = n + 1;
-    c
+    for id in cs.learners.ids.iter().take(cs.learners.len) {
+        list.push(Change::Learner(*id));
+    }
+    for id in cs.learners_next.ids.iter().take(cs.learners_next.len) {
+        list.push(Change::Learner(*id));
+    }
+    list
 }
 
 // The empty list.
@@ -126,8 +169,8 @@ pub(crate) fn list(ids: &[u64]) -> IdList {
 // The list 1 to 63.
 pub(crate) fn one_to_63() -> IdList {
     let mut ids = [0u64; IdList::CAPACITY];
-    for n in 0..63 {
-        ids[n] = n as u64 + 1;
+    for (id, n) in ids.iter_mut().zip(1..64) {
+        *id = n;
     }
     IdList { ids, len: 63 }
 }

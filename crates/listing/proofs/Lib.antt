@@ -1,4 +1,5 @@
 pub mod Cases
+pub mod Records
 pub mod Places
 pub mod Lines
 pub mod Pending

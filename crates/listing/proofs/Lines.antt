@@ -61,11 +61,8 @@ module _ {log : ChangeLog} {old : List ℕ} {at : ℕ} {out : List ℕ} {p i : �
   pub more-length : length out ≡ length old
   more-length = pass_length s.pass
 
-  pub more-done : log.count ≤ i → Put old at (each spaced_entry (entries_of (later log))) out p
+  pub more-done : min log.count 256 ≤ i → Put old at (each spaced_entry (entries_of (later log))) out p
   more-done h = pass_end s.pass (omega (arith, size))
-
-  pub more_out : 256 ≤ i → Put old at (each spaced_entry (entries_of (later log))) out p
-  more_out h = pass_end s.pass (omega (arith, size))
 
   pub more-next : (d : MapChange) {new : List ℕ} {q : ℕ} → i < 256 → i < log.count → Put out p (spaced_entry (entry_of (get_or log.entries i d))) new q → More log old at new q (i + 1)
   more-next d {new} {q} h k f =

@@ -17,66 +17,78 @@ use Rattle.listing.specs.declared.Session.{Session}
 use Rattle.listing.proofs.Sessions.{Good, begin_good, begin-same, after_good, after_same, after-count, shown-same}
 use Rattle.listing.proofs.Sizes.{listing-size}
 
--- ** The next record, or the end
+-- ** From a record on: the next record, or the end
 
-module _ (s : List ℕ) (at : ℕ) (y : script.Session) where
-  lines-go : (k : ℕ) → 0 < k → stops y (kind_at s at) ≡ false → lines k s at y ≡ shown y (kind_at s at) ++ lines (k - 1) s (at + 9) (after y (kind_at s at) (number_at s at))
-  unfolding lines
-  lines-go zero h e = absurd (omega arith)
-  lines-go (suc k) h e =
-      let z : suc k - 1 ≡ k = omega arith in
-      rw (e, z)
+-- what is printed from record k on
+abbrev pub lines_from : List ℕ → ℕ → script.Session → List ℕ
+lines_from s k y = lines (length s / 9 - k) s (9 * k) y
 
-  lines-stop : (k : ℕ) → 0 < k → stops y (kind_at s at) ≡ true → lines k s at y ≡ stopped_line at
+module _ (s : List ℕ) (k : ℕ) (y : script.Session) where
+  pub lines-go : k < length s / 9 → stops y (kind_at s (9 * k)) ≡ false → lines_from s k y ≡ shown y (kind_at s (9 * k)) ++ lines_from s (k + 1) (after y (kind_at s (9 * k)) (number_at s (9 * k)))
   unfolding lines
-  lines-stop zero h e = absurd (omega arith)
-  lines-stop (suc k) h e = rw e
+  lines-go h e =
+      let more : length s / 9 - k ≡ suc (length s / 9 - (k + 1)) = omega arith in
+      let next : 9 * k + 9 ≡ 9 * (k + 1) = omega arith in
+      rw (more, e, next)
 
-  lines_end : (k : ℕ) → k ≤ 0 → lines k s at y ≡ ending at (length s) y
+  pub lines-stop : k < length s / 9 → stops y (kind_at s (9 * k)) ≡ true → lines_from s k y ≡ stopped_line (9 * k)
   unfolding lines
-  lines_end zero h = refl
-  lines_end (suc k) h = absurd (omega arith)
+  lines-stop h e =
+      let more : length s / 9 - k ≡ suc (length s / 9 - (k + 1)) = omega arith in
+      rw (more, e)
+
+pub lines_end : (s : List ℕ) (y : script.Session) → lines_from s (length s / 9) y ≡ ending (9 * (length s / 9)) (length s) y
+unfolding lines
+lines_end s y =
+    let none : length s / 9 - length s / 9 ≡ 0 = omega arith in
+    rw none
+
+pub lines_all : (s : List ℕ) → lines_from s 0 script.begin ≡ listing s
+unfolding listing
+lines_all s =
+    let all : length s / 9 - 0 ≡ length s / 9 = omega arith in
+    rw all
 
 -- ** The loop
 
--- `left` records are left from `at` on, and what they print is what is left to be put
-pub record Replaying (s old out : List ℕ) (z : Session) (p at left : ℕ) : Type 0 where
+-- what the records print from record k on is what is left to be put
+pub record Replaying (s old out : List ℕ) (z : Session) (p k : ℕ) : Type 0 where
   pub short : length s ≤ 65536
-  pub spot : at + 9 * left ≤ length s
+  pub within : k ≤ length s / 9
   pub good : Good z
-  pub count : z.printed + left ≤ length s
-  pub rest : Rest old 0 (listing s) out p (lines left s at (session_of z))
+  pub count : z.printed ≤ k
+  pub rest : Rest old 0 (listing s) out p (lines_from s k (session_of z))
 
-pub replay-start : (s old : List ℕ) {z : Session} → length s ≤ 65536 → length old ≤ last → z ≡ begin_in → Replaying s old old z 0 0 (length s / 9)
-unfolding listing
+pub replay-start : (s old : List ℕ) {z : Session} → length s ≤ 65536 → length old ≤ last → z ≡ begin_in → Replaying s old old z 0 0
 replay-start s old h k e =
     rw e (record {
       short = h;
-      spot = omega arith;
+      within = omega arith;
       good = begin_good;
       count = omega arith;
-      rest = rw begin-same (rest_all k (omega arith));
+      rest = rw (begin-same, lines_all s) (rest_all k (omega arith));
     })
 
-module _ {s old out : List ℕ} {z : Session} {p at left : ℕ} (l : Replaying s old out z p at left) where
-  pub replay-end : {new : List ℕ} {q : ℕ} → left ≤ 0 → Put out p (ending at (length s) (session_of z)) new q → Put old 0 (listing s) new q
-  replay-end h f = rest-last (rw (lines_end s at (session_of z) left h) at l.rest) f
+module _ {s old out : List ℕ} {z : Session} {p k : ℕ} (l : Replaying s old out z p k) where
+  pub replay-end : {new : List ℕ} {q : ℕ} → k ≡ length s / 9 → Put out p (ending (9 * (length s / 9)) (length s) (session_of z)) new q → Put old 0 (listing s) new q
+  replay-end h f = rest-last (rw (h, lines_end s (session_of z)) at l.rest) f
 
-  module _ (h : 0 < left) {b : Bool} (e : b ≡ stops (session_of z) (kind_at s at)) where
-    pub replay-stop : {new : List ℕ} {q : ℕ} → b ≡ true → Put out p (stopped_line at) new q → Put old 0 (listing s) new q
-    replay-stop t f = rest-last (rw (lines-stop s at (session_of z) left h (sym e ∙ t)) at l.rest) f
+  module _ (h : k < length s / 9) {b : Bool} (e : b ≡ stops (session_of z) (kind_at s (9 * k))) where
+    pub replay-stop : {new : List ℕ} {q : ℕ} → b ≡ true → Put out p (stopped_line (9 * k)) new q → Put old 0 (listing s) new q
+    replay-stop t f = rest-last (rw (lines-stop s k (session_of z) h (sym e ∙ t)) at l.rest) f
 
-    pub replay-next : {new : List ℕ} {q n : ℕ} {next : Session} → b ≡ false → n ≡ number_at s at → Put out p (shown_in z (kind_at s at)) new q → next ≡ after_in z (kind_at s at) n
-        → Replaying s old new next q (at + 9) (left - 1)
+    pub replay-next : {new : List ℕ} {q n : ℕ} {next : Session} → b ≡ false → n ≡ number_at s (9 * k) → Put out p (shown_in z (kind_at s (9 * k))) new q → next ≡ after_in z (kind_at s (9 * k)) n
+        → Replaying s old new next q (k + 1)
     replay-next {new} {q} {n} {next} t m f g =
+        let at : ℕ = 9 * k in
         let goes : stops (session_of z) (kind_at s at) ≡ false = sym e ∙ t in
-        let low : z.printed < last = omega (arith, l.count, l.short) in
+        let low : z.printed < last = omega (arith, l.count, l.short, h) in
         rw (g, m) (record {
           short = l.short;
-          spot = omega (arith, l.spot);
+          within = omega (arith, h);
           good = after_good z l.good (kind_at s at) (number_at s at) goes;
           count = omega (arith, l.count, after-count z (kind_at s at) (number_at s at));
-          rest = rw (after_same z l.good (kind_at s at) (number_at s at) goes low) (rest_put (rw (lines-go s at (session_of z) left h goes) at l.rest) (rw (shown-same z l.good (kind_at s at) low) at f));
+          rest = rw (after_same z l.good (kind_at s at) (number_at s at) goes low) (rest_put (rw (lines-go s k (session_of z) h goes) at l.rest) (rw (shown-same z l.good (kind_at s at) low) at f));
         })
 
 -- ** The entry: a script that is too long; a listing that does not fit; one that fits

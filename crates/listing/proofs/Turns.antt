@@ -1,31 +1,33 @@
 -- What one record shows and leaves, by its kind: a change, or a run of the pending list. Assumes nothing.
-use Prim.Native.Nat.{ℕ, ◌≤◌, ◌<◌}
-use mathlib.Core.Path.{◌≡◌, ◌∙◌}
+use Prim.Native.Nat.{ℕ, ◌≤◌, ◌<◌, min}
+use mathlib.Core.Path.{◌≡◌, refl, ◌∙◌}
+use mathlib.Core.Bool.{Bool, true, false, cond}
 use mathlib.Core.List.{[]}
-use borrow.Author.Tests.{le-leb, lt-leb, eq-eqb, ne_eqb}
-use lib.Dec.{eqb}
-use lib.ListN.{take}
+use borrow.Author.Tests.{le-leb, lt-leb}
+use lib.ListN.{length, take}
 use Rattle.changer.specs.declared.Answer.{Answer}
 use Rattle.changer.specs.Calls.{simple_answer, enter_answer, leave_answer}
 use Rattle.listing.specs.Sessions.{pend_in, answer_in, applied_in, after_in, answer_text, shown_in}
 use Rattle.listing.specs.declared.Session.{Session}
+use Rattle.listing.proofs.Lines.{take_least}
+
+-- ** What is answered: the first `len` places of both arrays, or all
+
+module _ (z : Session) {n : ℕ} (m : n ≡ min z.len 256) (ids : length z.ids ≡ 256) (kinds : length z.kinds ≡ 256) where
+  pub simple-is : simple_answer z.tracker (take n z.ids) (take n z.kinds) ≡ answer_in z 3
+  unfolding answer_in
+  simple-is = rw (take_least z.len z.ids ids m, take_least z.len z.kinds kinds m)
+
+  pub enter-is : (auto : Bool) → enter_answer z.tracker auto (take n z.ids) (take n z.kinds) ≡ answer_in z (cond auto 5 4)
+  unfolding answer_in
+  enter-is true = rw (take_least z.len z.ids ids m, take_least z.len z.kinds kinds m)
+  enter-is false = rw (take_least z.len z.ids ids m, take_least z.len z.kinds kinds m)
+
+pub leave-is : (z : Session) → leave_answer z.tracker ≡ answer_in z 6
+unfolding answer_in
+leave-is z = refl
 
 module _ (z : Session) (kind : ℕ) where
-  -- ** What is answered
-
-  pub leave-is : kind ≡ 6 → leave_answer z.tracker ≡ answer_in z kind
-  unfolding answer_in
-  leave-is h = rw (eq-eqb kind 6 h)
-
-  module _ (h : kind ≡ 6 → ⊥) where
-    pub simple-is : kind ≡ 3 → simple_answer z.tracker (take z.len z.ids) (take z.len z.kinds) ≡ answer_in z kind
-    unfolding answer_in
-    simple-is k = rw (ne_eqb kind 6 h, eq-eqb kind 3 k)
-
-    pub enter-is : (kind ≡ 3 → ⊥) → enter_answer z.tracker (eqb kind 5) (take z.len z.ids) (take z.len z.kinds) ≡ answer_in z kind
-    unfolding answer_in
-    enter-is k = rw (ne_eqb kind 6 h, ne_eqb kind 3 k)
-
   -- ** What is shown and left
 
   pub change-shown : kind ≤ 2 → shown_in z kind ≡ []

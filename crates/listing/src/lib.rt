@@ -1,8 +1,9 @@
 // Script in, listing out: document 01, "The replay script". The listing is put into a lent slice, as far as it goes there, and counted to its end.
 #![tactic(auto)]
 
-ghost use Rattle.std.specs.Prelude.{◌≡◌, ◌+◌, ◌≤◌, min, length, get_or};
-ghost use Rattle.text.specs.Put.{Put, last};
+ghost use Rattle.std.specs.Prelude.{◌≡◌, ◌<◌, ◌+◌, ◌≤◌, length, get_or, MatchOption};
+ghost use Rattle.text.specs.Put.{Put};
+ghost use Rattle.listing.specs.Kinds.{byte_of, IsByteOf};
 ghost use Rattle.listing.specs.Script as script;
 ghost use Rattle.listing.specs.Lines.{stopped_line};
 ghost use Rattle.listing.specs.Listing.{ending, listing, replay_answer, replay_leaves};
@@ -19,6 +20,36 @@ pub const MAX_SCRIPT: usize = 65536;
 
 // The `max_inflight` of the state that a replay begins with.
 pub const MAX_INFLIGHT: u64 = 256;
+
+// A record's kind: a change more on the pending list, which one being the byte's to say, or a run of that list.
+#[derive(Clone, Copy)]
+enum Kind {
+    Change,
+    Run(Run),
+}
+
+#[derive(Clone, Copy)]
+enum Run {
+    Simple,
+    Enter { auto_leave: bool },
+    Leave,
+}
+
+impl Kind {
+    // The kind that a record's first byte names, if there is one.
+    fn of(byte: u8) -> Option<Kind>
+        ensures { MatchOption result (6 < byte) (λ kind. IsByteOf kind byte) }
+    {
+        match byte {
+            0..=2 => Some(Kind::Change),
+            3 => Some(Kind::Run(Run::Simple)),
+            4 => Some(Kind::Run(Run::Enter { auto_leave: false })),
+            5 => Some(Kind::Run(Run::Enter { auto_leave: true })),
+            6 => Some(Kind::Run(Run::Leave)),
+            _ => None,
+        }
+    }
+}
 
 // A replay: the state, the pending list, and how many lines were printed.
 #[derive(Clone, Copy)]
@@ -54,9 +85,9 @@ fn put_listing(script: &[u8], out: &mut [u8]) -> usize
 {
     let mut z = begin();
     let mut p = 0;
-    let mut at = 0;
-    let mut left = script.len() / 9;
-    while 0 < left {
+    let records = script.len() / 9;
+    for k in 0..records {
+        let at = 9 * k;
         let kind = script[at];
         if stops(z, kind) {
             return put_stopped(out, p, at);
@@ -64,19 +95,16 @@ fn put_listing(script: &[u8], out: &mut [u8]) -> usize
         let t = turn(out, p, z, kind, number_at(script, at + 1));
         p = t.at;
         z = t.session;
-        at += 9;
-        left -= 1;
     }
-    put_ending(out, p, at, script.len(), z)
+    put_ending(out, p, 9 * records, script.len(), z)
 }
 
 // The beginning: the fresh state with `max_inflight` 256, nothing pending, nothing printed.
 pub fn begin() -> Session
     ensures { result ≡ begin_in }
 {
-    let tracker = Tracker::new(MAX_INFLIGHT);
     Session {
-        tracker,
+        tracker: Tracker::new(MAX_INFLIGHT),
         ids: [0u64; changes::MAX_CHANGES],
         kinds: [0u8; changes::MAX_CHANGES],
         len: 0,
@@ -88,16 +116,13 @@ pub fn begin() -> Session
 pub fn stops(z: Session, kind: u8) -> bool
     ensures { result ≡ script.stops (session_of z) kind }
 {
-    if 6 < kind {
-        return true;
+    match Kind::of(kind) {
+        Some(Kind::Change) => changes::MAX_CHANGES <= z.len,
+        Some(Kind::Run(Run::Simple)) => false,
+        Some(Kind::Run(Run::Enter { .. })) => false,
+        Some(Kind::Run(Run::Leave)) => z.len != 0,
+        None => true,
     }
-    if kind <= 2 {
-        return changes::MAX_CHANGES <= z.len;
-    }
-    if kind == 6 {
-        return z.len != 0;
-    }
-    false
 }
 
 // Where the text ends after a record, and what is left to go on with.
@@ -111,11 +136,15 @@ pub struct Turned {
 pub fn turn(out: &mut [u8], at: usize, z: Session, kind: u8, number: u64) -> Turned
     ensures { Put out.old at (shown_in z kind) out.new result.at × (result.session ≡ after_in z kind number) }
 {
-    if kind <= 2 {
-        let session = pend(z, kind, number);
-        return Turned { at, session };
-    }
-    let a = answer_to(z, kind);
+    let run = match Kind::of(kind) {
+        Some(Kind::Run(run)) => run,
+        None => Run::Enter { auto_leave: false }, // the listing ended before
+        Some(Kind::Change) => {
+            let session = pend(z, kind, number);
+            return Turned { at, session };
+        }
+    };
+    let a = answer_to(z, run);
     let session = applied(z, a, number);
     let p = line::put_answer(out, at, session.printed, a);
     Turned { at: p, session }
@@ -137,31 +166,18 @@ fn pend(z: Session, kind: u8, id: u64) -> Session
     longer
 }
 
-// What the pending list is answered: 3 simple, 4 enter, 5 enter with auto leave, 6 leave.
+// What the pending list is answered.
 #[inline(always)]
-fn answer_to(z: Session, kind: u8) -> Answer
-    ensures { result ≡ answer_in z kind }
+fn answer_to(z: Session, run: Run) -> Answer
+    ensures { result ≡ answer_in z (byte_of run) }
 {
-    let t = z.tracker;
-    if kind == 6 {
-        return leave_joint(t);
-    }
-    let ids = z.ids;
-    let kinds = z.kinds;
-    let n = least(z.len);
-    if kind == 3 {
-        return simple(t, &ids[..n], &kinds[..n]);
-    }
-    enter_joint(t, kind == 5, &ids[..n], &kinds[..n])
-}
-
-fn least(n: usize) -> usize
-    ensures { result ≡ min n 256 }
-{
-    if n < changes::MAX_CHANGES {
-        n
-    } else {
-        changes::MAX_CHANGES
+    let n = z.len.min(changes::MAX_CHANGES);
+    let ids = &z.ids[..n];
+    let kinds = &z.kinds[..n];
+    match run {
+        Run::Simple => simple(z.tracker, ids, kinds),
+        Run::Enter { auto_leave } => enter_joint(z.tracker, auto_leave, ids, kinds),
+        Run::Leave => leave_joint(z.tracker),
     }
 }
 
@@ -169,25 +185,14 @@ fn least(n: usize) -> usize
 fn applied(z: Session, a: Answer, next_idx: u64) -> Session
     ensures { result ≡ applied_in z a next_idx }
 {
-    let t = z.tracker;
-    let o = apply_answer(t, a, next_idx);
-    let tracker = o.tracker;
+    let o = apply_answer(z.tracker, a, next_idx);
     Session {
-        tracker,
+        tracker: o.tracker,
         ids: [0u64; changes::MAX_CHANGES],
         kinds: [0u8; changes::MAX_CHANGES],
         len: 0, // nothing is pending
-        printed: one_more(z.printed),
+        printed: z.printed.saturating_add(1),
     }
-}
-
-fn one_more(n: u64) -> u64
-    ensures { result ≡ min (n + 1) last }
-{
-    if n == 18446744073709551615 {
-        return n;
-    }
-    n + 1
 }
 
 // `stopped at byte K`.
@@ -216,10 +221,8 @@ pub fn put_ending(out: &mut [u8], at: usize, k: usize, end: usize, z: Session) -
 pub fn number_at(s: &[u8], at: usize) -> u64
     ensures { result ≡ script.number 8 s.now at }
 {
-    let mut n: u64 = 0;
-    let mut i: usize = 8;
-    while 0 < i {
-        i -= 1;
+    let mut n = 0;
+    for i in (0..8).rev() {
         n = n * 256 + byte_at(s, at, i);
     }
     n
@@ -229,11 +232,8 @@ pub fn number_at(s: &[u8], at: usize) -> u64
 fn byte_at(s: &[u8], at: usize, i: usize) -> u64
     ensures { result ≡ get_or s.now (at + i) 0 }
 {
-    if s.len() <= at {
-        return 0;
-    }
-    if s.len() - at <= i {
-        return 0;
-    }
-    s[at + i] as u64
+    let place = at.checked_add(i);
+    place
+        .and_then(|place| s.get(place))
+        .map_or(0, |b| u64::from(*b))
 }

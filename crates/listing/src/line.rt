@@ -1,5 +1,5 @@
 // The text of a line: document 01, "The replay script".
-ghost use Rattle.std.specs.Prelude.{cond, [], ◌≡◌, min, take, drop};
+ghost use Rattle.std.specs.Prelude.{cond, [], ◌≡◌, take, drop};
 ghost use Rattle.idset.specs.Set.{held};
 ghost use Rattle.tracker.specs.Bridge.{conf_of, entry_of, entries_of, log_of};
 ghost use Rattle.text.specs.Put.{Put};
@@ -17,9 +17,7 @@ pub fn put_answer(out: &mut [u8], at: usize, k: u64, a: Answer) -> usize
     ensures { Put out.old at (answer_text k a) out.new result }
 {
     if a.number == 0 {
-        let conf = a.conf;
-        let log = a.log;
-        return put_ok(out, at, k, conf, log);
+        return put_ok(out, at, k, a.conf, a.log);
     }
     put_refused(out, at, k, a.number, a.id)
 }
@@ -61,19 +59,8 @@ fn put_conf(out: &mut [u8], at: usize, conf: Configuration) -> usize
 fn put_set(out: &mut [u8], at: usize, set: IdSet) -> usize
     ensures { Put out.old at (group (held set)) out.new result }
 {
-    let ids = set.ids;
-    let n = least(set.len);
-    text::put_group(out, at, &ids[..n])
-}
-
-fn least(n: usize) -> usize
-    ensures { result ≡ min n 64 }
-{
-    if n < IdSet::CAPACITY {
-        n
-    } else {
-        IdSet::CAPACITY
-    }
+    let n = set.len.min(IdSet::CAPACITY);
+    text::put_group(out, at, &set.ids[..n])
 }
 
 // A set that is not empty, after its label.
@@ -104,8 +91,7 @@ fn put_log(out: &mut [u8], at: usize, log: ChangeLog) -> usize
     if log.count == 0 {
         return text::put_byte(out, p, b')');
     }
-    let first = log.entries[0];
-    let q = put_entry(out, p, first);
+    let q = put_entry(out, p, log.entries[0]);
     let r = put_more(out, q, log);
     text::put_byte(out, r, b')')
 }
@@ -115,15 +101,8 @@ fn put_more(out: &mut [u8], at: usize, log: ChangeLog) -> usize
     ensures { Put out.old at (each spaced_entry (entries_of (drop 1 (take log.count log.entries)))) out.new result }
 {
     let mut p = at;
-    let n = log.count;
-    let mut i = 1;
-    while i < ChangeLog::CAPACITY {
-        if n <= i {
-            return p;
-        }
-        let e = log.entries[i];
-        p = put_spaced(out, p, e);
-        i += 1;
+    for i in 1..log.count.min(ChangeLog::CAPACITY) {
+        p = put_spaced(out, p, log.entries[i]);
     }
     p
 }
@@ -139,8 +118,7 @@ fn put_spaced(out: &mut [u8], at: usize, e: MapChange) -> usize
 fn put_entry(out: &mut [u8], at: usize, e: MapChange) -> usize
     ensures { Put out.old at (entry_text (entry_of e)) out.new result }
 {
-    let kind = e.kind;
-    let p = text::put_byte(out, at, sign(kind));
+    let p = text::put_byte(out, at, sign(e.kind));
     text::put_decimal(out, p, e.id)
 }
 

@@ -7,34 +7,14 @@ use Rattle.std.specs.Io.KnownBytes.{Appends}
 use Rattle.std.proofs.KnownBytes.{Appends-nil, Appends-trans}
 use Rattle.text.specs.Put.{Put, last}
 use Rattle.text.proofs.Laws.{put-fits, put-length}
-use Rattle.listing.specs.Script as script
-use Rattle.listing.specs.Script.{kind_at, number_at, stops, after}
+use Rattle.listing.specs.Script.{kind_at, number_at, stops}
 use Rattle.listing.specs.Lines.{stopped_line}
-use Rattle.listing.specs.Listing.{shown, ending, lines, listing}
+use Rattle.listing.specs.Listing.{ending, listing}
 use Rattle.listing.specs.Sessions.{session_of, begin_in, after_in, shown_in}
 use Rattle.listing.specs.declared.Session.{Session}
 use Rattle.listing.proofs.Sessions.{Good, begin_good, begin-same, after_good, after_same, after-count, shown-same}
+use Rattle.listing.proofs.Replay.{lines_from, lines-go, lines-stop, lines_end, lines_all}
 use Rattle.listing.proofs.Sizes.{line-size, stopped_size, ending-size}
-
--- ** The next record, or the end
-
-module _ (s : List ℕ) (at : ℕ) (y : script.Session) where
-  lines-go : (k : ℕ) → 0 < k → stops y (kind_at s at) ≡ false → lines k s at y ≡ shown y (kind_at s at) ++ lines (k - 1) s (at + 9) (after y (kind_at s at) (number_at s at))
-  unfolding lines
-  lines-go zero h e = absurd (omega arith)
-  lines-go (suc k) h e =
-      let z : suc k - 1 ≡ k = omega arith in
-      rw (e, z)
-
-  lines-stop : (k : ℕ) → 0 < k → stops y (kind_at s at) ≡ true → lines k s at y ≡ stopped_line at
-  unfolding lines
-  lines-stop zero h e = absurd (omega arith)
-  lines-stop (suc k) h e = rw e
-
-  lines_end : (k : ℕ) → k ≤ 0 → lines k s at y ≡ ending at (length s) y
-  unfolding lines
-  lines_end zero h = refl
-  lines_end (suc k) h = absurd (omega arith)
 
 -- ** A block
 
@@ -51,82 +31,87 @@ module _ {block x new : List ℕ} {n q : ℕ} (room : n + length x ≤ length bl
 
 -- ** The loop
 
--- `left` records are left from `at` on. What was written, what stands at the front of the block and what these records print is the listing
-pub record Printing (s : List ℕ) (old now : Option (List ℕ)) (block : List ℕ) (n : ℕ) (z : Session) (at left : ℕ) : Type 0 where
+-- what was written, what stands at the front of the block and what the records print from record k on is the listing
+pub record Printing (s : List ℕ) (old now : Option (List ℕ)) (block : List ℕ) (n : ℕ) (z : Session) (k : ℕ) : Type 0 where
   pub done : List ℕ
   pub written : Appends old now done
-  pub spot : at + 9 * left ≤ length s
+  pub within : k ≤ length s / 9
   pub good : Good z
-  pub count : z.printed + left ≤ length s
+  pub count : z.printed ≤ k
   pub room : n ≤ 21248
   pub size : length block ≡ 32768
-  pub text : done ++ (take n block ++ lines left s at (session_of z)) ≡ listing s
+  pub text : done ++ (take n block ++ lines_from s k (session_of z)) ≡ listing s
 
-pub print_start : (s block : List ℕ) (a : Option (List ℕ)) {z : Session} → length s ≤ last → length block ≡ 32768 → z ≡ begin_in → Printing s a a block 0 z 0 (length s / 9)
-unfolding listing
-print_start s block a h k e =
+pub print_start : (s block : List ℕ) (a : Option (List ℕ)) {z : Session} → length block ≡ 32768 → z ≡ begin_in → Printing s a a block 0 z 0
+print_start s block a k e =
     rw e (record {
       done = [];
       written = Appends-nil a;
-      spot = omega arith;
+      within = omega arith;
       good = begin_good;
       count = omega arith;
       room = omega arith;
       size = k;
-      text = rw begin-same refl;
+      text = rw begin-same (lines_all s);
     })
 
-module _ {s block : List ℕ} {a b : Option (List ℕ)} {n at left : ℕ} {z : Session} (l : Printing s a b block n z at left) where
+module _ {s block : List ℕ} {a b : Option (List ℕ)} {n k : ℕ} {z : Session} (l : Printing s a b block n z k) where
+  -- no text is longer than a block has room for
+  pub text_fits : (x : List ℕ) → length x ≤ 11300 → {new : List ℕ} {q : ℕ} → Put block n x new q → q ≤ length new
+  text_fits x short put = omega (arith, l.room, l.size, end_is (omega (arith, l.room, l.size)) (omega (arith, l.size)) put, put-length put)
+
   -- the last text, written
-  last_written : (x : List ℕ) → length x ≤ 11300 → lines left s at (session_of z) ≡ x → (c : Option (List ℕ)) {new : List ℕ} {q : ℕ} → Put block n x new q → Appends b c (take q new) → Appends a c (listing s)
+  last_written : (x : List ℕ) → length x ≤ 11300 → lines_from s k (session_of z) ≡ x → (c : Option (List ℕ)) {new : List ℕ} {q : ℕ} → Put block n x new q → Appends b c (take q new) → Appends a c (listing s)
   last_written x short is c {new} {q} put w =
       let front : take q new ≡ take n block ++ x = front_grows (omega (arith, l.room, l.size)) (omega (arith, l.size)) put in
-      let whole : l.done ++ take q new ≡ listing s = ap (λ k. l.done ++ k) (front ∙ ap (λ k. take n block ++ k) (sym is)) ∙ l.text in
+      let whole : l.done ++ take q new ≡ listing s = ap (λ r. l.done ++ r) (front ∙ ap (λ r. take n block ++ r) (sym is)) ∙ l.text in
       subst (Appends a c) whole (Appends-trans a b c l.done (take q new) l.written w)
 
-  pub print_end : left ≤ 0 → (c : Option (List ℕ)) {new : List ℕ} {q : ℕ} → Put block n (ending at (length s) (session_of z)) new q → Appends b c (take q new) → Appends a c (listing s)
-  print_end h = last_written _ (ending-size at (length s) (session_of z)) (lines_end s at (session_of z) left h)
+  pub print_end : k ≡ length s / 9 → (c : Option (List ℕ)) {new : List ℕ} {q : ℕ} → Put block n (ending (9 * (length s / 9)) (length s) (session_of z)) new q → Appends b c (take q new) → Appends a c (listing s)
+  print_end h = last_written _ (ending-size (9 * (length s / 9)) (length s) (session_of z)) (ap (λ j. lines_from s j (session_of z)) h ∙ lines_end s (session_of z))
 
-  module _ (h : 0 < left) {t : Bool} (e : t ≡ stops (session_of z) (kind_at s at)) where
-    pub print_stop : t ≡ true → (c : Option (List ℕ)) {new : List ℕ} {q : ℕ} → Put block n (stopped_line at) new q → Appends b c (take q new) → Appends a c (listing s)
-    print_stop y = last_written _ (stopped_size at) (lines-stop s at (session_of z) left h (sym e ∙ y))
+  module _ (h : k < length s / 9) {t : Bool} (e : t ≡ stops (session_of z) (kind_at s (9 * k))) where
+    pub print_stop : t ≡ true → (c : Option (List ℕ)) {new : List ℕ} {q : ℕ} → Put block n (stopped_line (9 * k)) new q → Appends b c (take q new) → Appends a c (listing s)
+    print_stop y = last_written _ (stopped_size (9 * k)) (lines-stop s k (session_of z) h (sym e ∙ y))
 
-    module _ (y : t ≡ false) {m : ℕ} (k : m ≡ number_at s at) (space : length s ≤ last) {new : List ℕ} {q : ℕ} {next : Session} (put : Put block n (shown_in z (kind_at s at)) new q) (f : next ≡ after_in z (kind_at s at) m) where
-      goes : stops (session_of z) (kind_at s at) ≡ false
+    module _ (y : t ≡ false) {m : ℕ} (f : m ≡ number_at s (9 * k)) (space : length s ≤ last) {new : List ℕ} {q : ℕ} {next : Session} (put : Put block n (shown_in z (kind_at s (9 * k))) new q) (g : next ≡ after_in z (kind_at s (9 * k)) m) where
+      abbrev kind : ℕ
+      kind = kind_at s (9 * k)
+
+      goes : stops (session_of z) kind ≡ false
       goes = sym e ∙ y
 
       low : z.printed < last
-      low = omega (arith, l.count)
+      low = omega (arith, l.count, h, space)
 
-      front : take q new ≡ take n block ++ shown_in z (kind_at s at)
-      front = front_grows (omega (arith, l.room, l.size, line-size z (kind_at s at))) (omega (arith, l.size)) put
+      front : take q new ≡ take n block ++ shown_in z kind
+      front = front_grows (omega (arith, l.room, l.size, line-size z kind)) (omega (arith, l.size)) put
 
-      next_is : next ≡ after_in z (kind_at s at) (number_at s at)
-      next_is = f ∙ ap (after_in z (kind_at s at)) k
+      next_is : next ≡ after_in z kind (number_at s (9 * k))
+      next_is = g ∙ ap (after_in z kind) f
 
-      left_is : lines left s at (session_of z) ≡ shown_in z (kind_at s at) ++ lines (left - 1) s (at + 9) (session_of next)
-      left_is =
-          rw (next_is, after_same z l.good (kind_at s at) (number_at s at) goes low, shown-same z l.good (kind_at s at) low) (lines-go s at (session_of z) left h goes)
+      left_is : lines_from s k (session_of z) ≡ shown_in z kind ++ lines_from s (k + 1) (session_of next)
+      left_is = rw (next_is, after_same z l.good kind (number_at s (9 * k)) goes low, shown-same z l.good kind low) (lines-go s k (session_of z) h goes)
 
-      text_is : l.done ++ (take q new ++ lines (left - 1) s (at + 9) (session_of next)) ≡ listing s
+      text_is : l.done ++ (take q new ++ lines_from s (k + 1) (session_of next)) ≡ listing s
       text_is =
-          ap (λ r. l.done ++ (r ++ lines (left - 1) s (at + 9) (session_of next))) front
-          ∙ ap (λ r. l.done ++ r) (append_assoc (take n block) (shown_in z (kind_at s at)) (lines (left - 1) s (at + 9) (session_of next)) ∙ ap (λ r. take n block ++ r) (sym left_is))
+          ap (λ r. l.done ++ (r ++ lines_from s (k + 1) (session_of next))) front
+          ∙ ap (λ r. l.done ++ r) (append_assoc (take n block) (shown_in z kind) (lines_from s (k + 1) (session_of next)) ∙ ap (λ r. take n block ++ r) (sym left_is))
           ∙ l.text
 
       good_next : Good next
-      good_next = rw next_is (after_good z l.good (kind_at s at) (number_at s at) goes)
+      good_next = rw next_is (after_good z l.good kind (number_at s (9 * k)) goes)
 
-      count_next : next.printed + (left - 1) ≤ length s
-      count_next = rw next_is (omega (arith, l.count, after-count z (kind_at s at) (number_at s at)))
+      count_next : next.printed ≤ k + 1
+      count_next = rw next_is (omega (arith, l.count, after-count z kind (number_at s (9 * k))))
 
       -- the block stays
-      pub print_on : q ≤ 21248 → Printing s a b new q next (at + 9) (left - 1)
+      pub print_on : q ≤ 21248 → Printing s a b new q next (k + 1)
       print_on r =
           record {
             done = l.done;
             written = l.written;
-            spot = omega (arith, l.spot);
+            within = omega (arith, h);
             good = good_next;
             count = count_next;
             room = r;
@@ -135,15 +120,15 @@ module _ {s block : List ℕ} {a b : Option (List ℕ)} {n at left : ℕ} {z : S
           }
 
       -- the block is written
-      pub print_block : (c : Option (List ℕ)) → Appends b c (take q new) → Printing s a c new 0 next (at + 9) (left - 1)
+      pub print_block : (c : Option (List ℕ)) → Appends b c (take q new) → Printing s a c new 0 next (k + 1)
       print_block c w =
           record {
             done = l.done ++ take q new;
             written = Appends-trans a b c l.done (take q new) l.written w;
-            spot = omega (arith, l.spot);
+            within = omega (arith, h);
             good = good_next;
             count = count_next;
             room = omega arith;
             size = put-length put ∙ l.size;
-            text = append_assoc l.done (take q new) (lines (left - 1) s (at + 9) (session_of next)) ∙ text_is;
+            text = append_assoc l.done (take q new) (lines_from s (k + 1) (session_of next)) ∙ text_is;
           }

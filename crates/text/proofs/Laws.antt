@@ -1,12 +1,12 @@
 -- Laws of text that is put into a slice piece by piece. Assumes nothing.
-use Prim.Native.Nat.{ℕ, suc, ◌+◌, ◌-◌, ◌≤◌, ◌<◌, min}
+use Prim.Native.Nat.{ℕ, suc, ◌+◌, ◌≤◌, ◌<◌, min}
 use mathlib.Core.Path.{◌≡◌, refl, ap, sym, ◌∙◌}
 use mathlib.Core.List.{List, [], ◌∷◌, ◌++◌, append_assoc}
 use native.Mathlib.Nat.{zero-add}
 use native.Mathlib.Numerals.{add-one}
 use native.Mathlib.Omega.{arith, min_cases}
 use lib.ListN.{length, set, length-append, take, drop, get_or, drop_of_length-le}
-use lib.Seq.{sets, sets-eq, length-sets, set_out, drop-cons, take_all}
+use lib.Seq.{sets, sets-eq, length-sets, set_out, drop-cons}
 use Rattle.text.specs.Text.{each, decimal, spaced, words}
 use Rattle.text.specs.Put.{Put, last}
 
@@ -29,10 +29,6 @@ sets_then xs ys l i h = sets-min ys (sets l i xs) (i + length xs) (omega (arith,
 -- the empty text
 pub put_none : {l : List ℕ} {at : ℕ} → at ≤ last → Put l at [] l at
 put_none h = record { bytes = refl; end = omega arith }
-
--- a byte past the end
-pub put_out : {l : List ℕ} {at b p : ℕ} → length l ≤ at → p ≡ min (at + 1) last → Put l at (b ∷ []) l p
-put_out {l} {at} {b} h e = record { bytes = sym (set_out l at b h); end = e }
 
 -- one text after another
 pub put_then : {l m n x y : List ℕ} {at p q : ℕ} → length l ≤ last → Put l at x m p → Put m p y n q → Put l at (x ++ y) n q
@@ -120,9 +116,6 @@ unfolding words
 words_none [] h = refl
 words_none (x ∷ xs) h = absurd (omega arith)
 
-pub words-some : (xs : List ℕ) → (length xs ≡ 0 → ⊥) → words xs ≡ decimal (get_or xs 0 0) ++ each spaced (take (length xs - 1) (drop 1 xs))
+pub words-some : {xs rest : List ℕ} {x : ℕ} → xs ≡ x ∷ rest → words xs ≡ decimal x ++ each spaced rest
 unfolding words
-words-some [] h = absurd (h refl)
-words-some (x ∷ xs) h =
-    let k : length xs ≤ suc (length xs) - 1 = omega arith in
-    rw (take_all (suc (length xs) - 1) xs k)
+words-some e = rw e

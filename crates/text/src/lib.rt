@@ -1,39 +1,106 @@
-// Text put into a lent slice: what does not fit there is counted and not written. Each function takes the place where its text begins and gives the
-// place where it ends; the same functions count, on a short slice, and write, on the real one.
+// Text put into a lent slice: what does not fit there is counted and not written. The same functions count, on a short slice, and write, on the
+// real one.
 #![tactic(auto)]
 
-ghost use Rattle.std.specs.Prelude.{[], ◌∷◌, ◌≡◌, ◌+◌, ◌-◌, min};
-ghost use Rattle.text.specs.Text.{decimal, each, spaced, words, group};
-ghost use Rattle.text.specs.Put.{Put, last};
+ghost use Rattle.std.specs.Prelude.{[], ◌∷◌, ◌≡◌};
+ghost use Rattle.text.specs.Text.{decimal, spaced, words, group};
+ghost use Rattle.text.specs.Put.{Put};
+ghost use Rattle.text.specs.Writes.{Writes};
 
-// The place after `at`; the last place is its own.
-fn next(at: usize) -> usize
-    ensures { result ≡ min (at + 1) last }
-{
-    if at == 18446744073709551615 {
-        return at;
-    }
-    at + 1
+// A lent slice, and the place where the next text goes, in it or past its end.
+#[derive(Drop)]
+pub struct Output<'a> {
+    pub bytes: &'a mut [u8],
+    pub at: usize,
 }
 
+impl<'a> Output<'a> {
+    // The slice from its front on.
+    pub fn new(bytes: &'a mut [u8]) -> Output<'a>
+        ensures same_reference { result.bytes.ghost_name ≡ bytes.entry.ghost_name }
+        ensures untouched { result.bytes.now ≡ bytes.old }
+        ensures front { result.at ≡ 0 }
+    {
+        Output { bytes, at: 0 }
+    }
+
+    // A byte. The place after the last one is its own.
+    pub fn put_byte(&mut self, b: u8)
+        ensures { Writes self.old (b ∷ []) self.new }
+    {
+        if self.at < self.bytes.len() {
+            self.bytes[self.at] = b;
+        }
+        self.at = self.at.saturating_add(1);
+    }
+
+    pub fn put_bytes(&mut self, s: &[u8])
+        ensures { Writes self.old s.now self.new }
+    {
+        for b in s {
+            self.put_byte(*b);
+        }
+    }
+
+    // The number in decimal.
+    pub fn put_decimal(&mut self, n: u64)
+        ensures { Writes self.old (decimal n) self.new }
+    {
+        if n < 10 {
+            self.put_byte(b'0' + n as u8);
+            return;
+        }
+        self.put_decimal(n / 10);
+        self.put_byte(b'0' + (n % 10) as u8);
+    }
+
+    // A space and the number.
+    fn put_spaced(&mut self, n: u64)
+        ensures { Writes self.old (spaced n) self.new }
+    {
+        self.put_byte(b' ');
+        self.put_decimal(n);
+    }
+
+    // The numbers with spaces between them.
+    fn put_words(&mut self, xs: &[u64])
+        ensures { Writes self.old (words xs.now) self.new }
+    {
+        let Some((first, rest)) = xs.split_first() else {
+            return;
+        };
+        self.put_decimal(*first);
+        for x in rest {
+            self.put_spaced(*x);
+        }
+    }
+
+    // The numbers in parentheses.
+    pub fn put_group(&mut self, xs: &[u64])
+        ensures { Writes self.old (group xs.now) self.new }
+    {
+        self.put_byte(b'(');
+        self.put_words(xs);
+        self.put_byte(b')');
+    }
+}
+
+// A byte. The place after `at` is the next; that after the last place is its own.
 pub fn put_byte(out: &mut [u8], at: usize, b: u8) -> usize
     ensures { Put out.old at (b ∷ []) out.new result }
 {
     if at < out.len() {
         out[at] = b;
-        return at + 1;
     }
-    next(at)
+    at.saturating_add(1)
 }
 
 pub fn put_bytes(out: &mut [u8], at: usize, s: &[u8]) -> usize
     ensures { Put out.old at s.now out.new result }
 {
     let mut p = at;
-    let mut i = 0;
-    while i < s.len() {
-        p = put_byte(out, p, s[i]);
-        i += 1;
+    for b in s {
+        p = put_byte(out, p, *b);
     }
     p
 }
@@ -43,10 +110,10 @@ pub fn put_decimal(out: &mut [u8], at: usize, n: u64) -> usize
     ensures { Put out.old at (decimal n) out.new result }
 {
     if n < 10 {
-        return put_byte(out, at, 48 + n as u8);
+        return put_byte(out, at, b'0' + n as u8);
     }
     let p = put_decimal(out, at, n / 10);
-    put_byte(out, p, 48 + (n % 10) as u8)
+    put_byte(out, p, b'0' + (n % 10) as u8)
 }
 
 // A space and the number.
@@ -57,27 +124,18 @@ fn put_spaced(out: &mut [u8], at: usize, n: u64) -> usize
     put_decimal(out, p, n)
 }
 
-fn put_all_spaced(out: &mut [u8], at: usize, xs: &[u64]) -> usize
-    ensures { Put out.old at (each spaced xs.now) out.new result }
-{
-    let mut p = at;
-    let mut i = 0;
-    while i < xs.len() {
-        p = put_spaced(out, p, xs[i]);
-        i += 1;
-    }
-    p
-}
-
 // The numbers with spaces between them.
 fn put_words(out: &mut [u8], at: usize, xs: &[u64]) -> usize
     ensures { Put out.old at (words xs.now) out.new result }
 {
-    if xs.len() == 0 {
+    let Some((first, rest)) = xs.split_first() else {
         return at;
+    };
+    let mut p = put_decimal(out, at, *first);
+    for x in rest {
+        p = put_spaced(out, p, *x);
     }
-    let p = put_decimal(out, at, xs[0]);
-    put_all_spaced(out, p, &xs[1..])
+    p
 }
 
 // The numbers in parentheses.

@@ -27,7 +27,9 @@ use Rattle.changer.specs.Before.{own_check}
 use Rattle.changer.specs.Calls.{unplug_of}
 use Rattle.changer.proofs.Unplug.{unplug-told}
 use Rattle.unplug.specs.Words.{at, within_by, words_by}
-use Rattle.unplug.specs.Unplugs.{state_holds_in, state_in, told_of}
+use Rattle.unplug.specs.Unplugs.{answered_of, state_holds_in, state_in, told, told_of}
+use Rattle.unplug.specs.declared.Unfit.TheVariants.{Length, Word}
+use Rattle.std.proofs.Common.{Ok, Err}
 use Rattle.unplug.specs.declared.Told.{Told}
 use Rattle.unplug.proofs.WordBlocks.{some_words}
 
@@ -144,16 +146,15 @@ module _ (ws : List ℕ) (x : ℕ) where
 
 -- ** What is told
 
-module _ (ws : List ℕ) (x : ℕ) where
-  pub told-length : (length ws ≡ 967 → ⊥) → ◌≡◌ {A = Told} (record { returned = 1; number = 0; id = 0 }) (told_of ws x)
-  unfolding told_of
-  told-length h = rw (ne_eqb _ _ h)
+-- an answer is told as the theorems say
+pub told_answer : (ws : List ℕ) (x : ℕ) → told (answered_of ws x) ≡ told_of ws x
+unfolding told_of answered_of
+told_answer ws x = go (not (eqb (length ws) 967)) (not (state_holds_in ws))
+  where
+    v : Verdict
+    v = unplug_of (state_in ws) x
 
-  module _ (h : length ws ≡ 967) where
-    pub told-held : state_holds_in ws ≡ false → ◌≡◌ {A = Told} (record { returned = 4; number = 0; id = 0 }) (told_of ws x)
-    unfolding told_of
-    told-held f = rw (eq-eqb _ _ h, f)
-
-    pub told-done : state_holds_in ws ≡ true → {v : Verdict} → v ≡ unplug_of (state_in ws) x → ◌≡◌ {A = Told} (record { returned = 0; number = v.number; id = v.id }) (told_of ws x)
-    unfolding told_of
-    told-done f e = rw (eq-eqb _ _ h, f, ← e)
+    go : (a b : Bool) → ◌≡◌ {A = Told} (told (cond a (Err Length) (cond b (Err Word) (Ok v)))) (cond a (record { returned = 1; number = 0; id = 0 }) (cond b (record { returned = 4; number = 0; id = 0 }) (record { returned = 0; number = v.number; id = v.id })))
+    go true b = refl
+    go false true = refl
+    go false false = refl

@@ -1,9 +1,12 @@
 -- Can this box be unplugged?: document 02, d), asked of a STATE in words (docs/EMBEDDING.md). Assumes nothing.
-use Rattle.std.specs.Prelude.{ℕ, Bool, not, cond, List, eqb, length}
+use Rattle.std.specs.Prelude.{ℕ, Bool, not, cond, List, Result, Ok, Err, eqb, length}
 use Rattle.tracker.specs.declared.Tracker.{Tracker}
+use Rattle.tracker.specs.declared.Verdict.{Verdict}
 use Rattle.changer.specs.Calls.{unplug_of}
 use Rattle.unplug.specs.Words.{at, state_by, state_holds_by}
 use Rattle.unplug.specs.declared.Told.{Told}
+use Rattle.unplug.specs.declared.Unfit.{Unfit}
+use Rattle.unplug.specs.declared.Unfit.TheVariants.{Length, Word}
 
 -- the STATE that the words are
 abbrev pub state_in : List ℕ → Tracker
@@ -19,3 +22,19 @@ told_of ws x =
     cond (not (eqb (length ws) 967)) (record { returned = 1; number = 0; id = 0 })
     (cond (not (state_holds_in ws)) (record { returned = 4; number = 0; id = 0 })
     (record { returned = 0; number = (unplug_of (state_in ws) x).number; id = (unplug_of (state_in ws) x).id }))
+
+-- not 967 words; a word that no field can hold; else number and id
+unfoldable pub answered_of : List ℕ → ℕ → Result Verdict Unfit
+answered_of ws x =
+    cond (not (eqb (length ws) 967)) (Err Length)
+    (cond (not (state_holds_in ws)) (Err Word)
+    (Ok (unplug_of (state_in ws) x)))
+
+abbrev pub number_of : Unfit → ℕ
+number_of Length = 1
+number_of Word = 4
+
+-- an answer as it is told
+abbrev pub told : Result Verdict Unfit → Told
+told (Ok v) = record { returned = 0; number = v.number; id = v.id }
+told (Err e) = record { returned = number_of e; number = 0; id = 0 }

@@ -1,23 +1,35 @@
 // Can this box be unplugged? Document 02, d): number and id of `simple` with the removal of one box, of any state, without the call. The state is lent
-// as the words of a STATE (docs/EMBEDDING.md) and read where they stand: no copy of it, no log and no configuration is made. The sets are at the words
-// 0 incoming, 65 outgoing, 130 learners, 195 learners_next and 261 tracked; each has 64 ids and then its count.
+// as the words of a STATE (docs/EMBEDDING.md) and read where they stand: no copy of it, no log and no configuration is made.
 #![tactic(auto)]
 
-ghost use Rattle.std.specs.Prelude.{◌≡◌, true, not, ◌+◌, ◌*◌, ◌≤◌, length};
+ghost use Rattle.std.specs.Prelude.{◌≡◌, ℕ, true, not, ◌&&◌, ◌+◌, ◌*◌, ◌≤◌, length};
 ghost use Rattle.rules.specs.Ids.{ascending};
 ghost use Rattle.rules.specs.Unplug.{voter_left};
 ghost use Rattle.idset.specs.Set.{held, well_formed};
 ghost use Rattle.tracker.specs.Apply.{verdict_of};
-ghost use Rattle.tracker.specs.Form.{tracker_well_formed};
+ghost use Rattle.tracker.specs.Form.{conf_well_formed, tracker_well_formed};
 ghost use Rattle.changer.specs.Before.{own_check};
 ghost use Rattle.changer.specs.Calls.{unplug_of};
 ghost use Rattle.unplug.specs.Words.{at as word_in, set_by, within_by};
-ghost use Rattle.unplug.specs.Unplugs.{state_in, state_holds_in, told_of};
+ghost use Rattle.unplug.specs.Unplugs.{state_in, state_holds_in, answered_of};
 
+use crate::layout::{
+    AUTO_LEAVE, INCOMING, LEARNERS, LEARNERS_NEXT, OUTGOING, PAUSED, RECENT_ACTIVE, RECORD,
+    RECORD_STATE, RECORDS, RECORDS_END, TRACKED, WORDS,
+};
 use idset::IdSet;
 use tracker::{Tracker, Verdict, numbers};
 
-// What is told: 0, and the number and id; or why the words are no state, 1 or 4.
+pub mod layout; // the places in a STATE
+
+// Why words are no STATE: there are not 967, or no field can hold one of them.
+#[derive(Clone, Copy, Debug, PartialEq, Eq)]
+pub enum Unfit {
+    Length,
+    Word,
+}
+
+// An answer of `unplug` as the theorems speak of it: 0, and the number and id; or the number of what is unfit.
 #[derive(Clone, Copy)]
 pub struct Told {
     pub returned: u64,
@@ -25,30 +37,18 @@ pub struct Told {
     pub id: u64,
 }
 
-// Number and id. A state that has not 967 words: 1; a word that no field can hold: 4.
-pub fn unplug(state: &[u64], id: u64) -> Told
-    ensures { result ≡ told_of state.now id }
+// The number and id, of a state in words.
+#[tactic(auto, unfolding(crate::specs::Unplugs::answered_of))]
+pub fn unplug(state: &[u64], id: u64) -> Result<Verdict, Unfit>
+    ensures { result ≡ answered_of state.now id }
 {
-    if state.len() != 967 {
-        return Told {
-            returned: 1,
-            number: 0,
-            id: 0,
-        };
+    if state.len() != WORDS {
+        return Err(Unfit::Length);
     }
     if !holds(state) {
-        return Told {
-            returned: 4,
-            number: 0,
-            id: 0,
-        };
+        return Err(Unfit::Word);
     }
-    let v = answer(state, id);
-    Told {
-        returned: 0,
-        number: v.number,
-        id: v.id,
-    }
+    Ok(answer(state, id))
 }
 
 // 1; 6; the check; 17.
@@ -59,7 +59,7 @@ fn answer(s: &[u64], id: u64) -> Verdict
     if malformed(s) {
         return verdict(numbers::MALFORMED);
     }
-    if word(s, 129) != 0 {
+    if word(s, OUTGOING + IdSet::CAPACITY) != 0 {
         return verdict(numbers::SIMPLE_WHILE_JOINT);
     }
     let v = check(s);
@@ -82,41 +82,48 @@ fn verdict(number: u64) -> Verdict
 fn word(s: &[u64], k: usize) -> u64
     ensures { result ≡ word_in s.now k }
 {
-    if s.len() <= k {
-        return 0;
-    }
-    s[k]
+    s.get(k).copied().unwrap_or(0)
 }
 
 // Whether every word can be held by its field: the flag, and of each record its state and its two flags.
+#[tactic(auto, unfolding(crate::specs::Unplugs::state_holds_in))]
 fn holds(s: &[u64]) -> bool
     ensures { result ≡ state_holds_in s.now }
 {
-    if !at_most(s, 260, 1, 1, 1) {
-        return false;
-    }
-    if !at_most(s, 328, Tracker::CAPACITY, 10, 2) {
-        return false;
-    }
-    if !at_most(s, 329, Tracker::CAPACITY, 10, 1) {
-        return false;
-    }
-    at_most(s, 332, Tracker::CAPACITY, 10, 1)
+    at_most(|k| word(s, k), AUTO_LEAVE, 1, 1, 1)
+        && at_most(
+            |k| word(s, k),
+            RECORDS + RECORD_STATE,
+            Tracker::CAPACITY,
+            RECORD,
+            2,
+        )
+        && at_most(
+            |k| word(s, k),
+            RECORDS + PAUSED,
+            Tracker::CAPACITY,
+            RECORD,
+            1,
+        )
+        && at_most(
+            |k| word(s, k),
+            RECORDS + RECENT_ACTIVE,
+            Tracker::CAPACITY,
+            RECORD,
+            1,
+        )
 }
 
 // Whether `n` words from `k` on, `step` apart, are at most `most`.
-fn at_most(s: &[u64], k: usize, n: usize, step: usize, most: u64) -> bool
-    requires { k + n * step ≤ 4096 }
-    ensures { result ≡ within_by n most step (word_in s.now) k }
+pub fn at_most<F: Fn(usize) -> u64>(word: F, k: usize, n: usize, step: usize, most: u64) -> bool
+    requires callable { F.IsAlwaysCallable word }
+    requires room { k + n * step ≤ 4096 }
+    ensures { (f : ℕ → ℕ) → ((i r : ℕ) → F.post word i r → r ≡ f i) → result ≡ within_by n most step f k }
 {
-    let mut at = k;
-    let mut left = n;
-    while 0 < left {
-        if most < word(s, at) {
+    for i in 0..n {
+        if most < word(k + i * step) {
             return false;
         }
-        at += step;
-        left -= 1;
     }
     true
 }
@@ -126,23 +133,24 @@ fn malformed(s: &[u64]) -> bool
     requires { (length s.now ≡ 967) × (state_holds_in s.now ≡ true) }
     ensures { result ≡ not (tracker_well_formed (state_in s.now)) }
 {
-    if malformed_at(s, 0) {
+    if a_set_malformed(s) {
         return true;
     }
-    if malformed_at(s, 65) {
-        return true;
-    }
-    if malformed_at(s, 130) {
-        return true;
-    }
-    if malformed_at(s, 195) {
-        return true;
-    }
-    if malformed_at(s, 261) {
-        return true;
-    }
-    let tracked = word(s, 325) as usize;
-    !idset::zero_from(&s[326..966], 10 * tracked)
+    let tracked = word(s, TRACKED + IdSet::CAPACITY) as usize;
+    !idset::zero_from(&s[RECORDS..RECORDS_END], RECORD * tracked)
+}
+
+// Whether one of the sets is malformed.
+#[tactic(auto, unfolding(tracker::specs::Form::conf_well_formed))]
+fn a_set_malformed(s: &[u64]) -> bool
+    requires { length s.now ≡ 967 }
+    ensures { result ≡ not (conf_well_formed (state_in s.now).conf && well_formed (state_in s.now).ids) }
+{
+    malformed_at(s, INCOMING)
+        || malformed_at(s, OUTGOING)
+        || malformed_at(s, LEARNERS)
+        || malformed_at(s, LEARNERS_NEXT)
+        || malformed_at(s, TRACKED)
 }
 
 // Whether the set at `k` is malformed.
@@ -161,25 +169,25 @@ fn check(s: &[u64]) -> Verdict
     requires { length s.now ≡ 967 }
     ensures { result ≡ verdict_of (own_check (state_in s.now)) }
 {
-    let incoming = &s[0..64];
-    let i = word(s, 64) as usize;
-    let outgoing = &s[65..129];
-    let o = word(s, 129) as usize;
-    let ids = &s[261..325];
-    let n = word(s, 325) as usize;
+    let incoming = &s[INCOMING..OUTGOING - 1];
+    let i = word(s, OUTGOING - 1) as usize;
+    let outgoing = &s[OUTGOING..LEARNERS - 1];
+    let o = word(s, LEARNERS - 1) as usize;
+    let ids = &s[TRACKED..RECORDS - 1];
+    let n = word(s, RECORDS - 1) as usize;
     let v = invariants::check_voters(incoming, i, outgoing, o, ids, n);
     if v.number != numbers::ACCEPTED {
         return v;
     }
-    let learners = &s[130..194];
-    let l = word(s, 194) as usize;
+    let learners = &s[LEARNERS..LEARNERS_NEXT - 1];
+    let l = word(s, LEARNERS_NEXT - 1) as usize;
     let v = invariants::check_learners(learners, l, outgoing, o, incoming, i, ids, n);
     if v.number != numbers::ACCEPTED {
         return v;
     }
-    let staged = &s[195..259];
-    let g = word(s, 259) as usize;
-    let auto_leave = word(s, 260) == 1;
+    let staged = &s[LEARNERS_NEXT..AUTO_LEAVE - 1];
+    let g = word(s, AUTO_LEAVE - 1) as usize;
+    let auto_leave = word(s, AUTO_LEAVE) == 1;
     invariants::check_staged(staged, g, outgoing, o, auto_leave, ids, n)
 }
 
@@ -188,7 +196,7 @@ fn alone(s: &[u64], id: u64) -> bool
     requires { (length s.now ≡ 967) × (ascending (held (set_by (word_in s.now) 0)) ≡ true) }
     ensures { result ≡ not (voter_left id (held (set_by (word_in s.now) 0))) }
 {
-    let n = word(s, 64);
+    let n = word(s, INCOMING + IdSet::CAPACITY);
     if n == 0 {
         return true;
     }
@@ -198,5 +206,5 @@ fn alone(s: &[u64], id: u64) -> bool
     if n != 1 {
         return false;
     }
-    word(s, 0) == id
+    word(s, INCOMING) == id
 }

@@ -3,115 +3,96 @@
 // stdout of this crate from the Rust's answers; host/VECTORS.md says how, and has the format.
 #![tactic(auto)]
 
-use case::{Head, Outcome};
-use std::io;
+use case::{Difference, Kind};
 use std::io::{Read, Write};
-use std::num::wrapping_add_u64;
+use std::{fmt, io};
 
 mod case; // one case
-mod say; // what is printed
 mod unpack; // the bytes of a case
 
 // `dimevec2`, with which the file begins, as a number.
 const NAME: u64 = 3630857283772967268;
 
-// How many cases were replayed, of each kind; and whether the rest cannot be read.
-#[derive(Clone, Copy)]
-pub(crate) struct Counts {
-    pub calls: u64,
-    pub scripts: u64,
-    pub by_rust: u64,
-    pub passed: u64,
-    pub failed: u64,
-    pub lost: bool,
+// How many cases were replayed, of each kind.
+#[derive(Clone, Copy, Default)]
+struct Counts {
+    calls: u64,
+    scripts: u64,
+    by_rust: u64,
+    passed: u64,
+    failed: u64,
 }
 
-// The case is counted. One that could not be read has no kind.
-fn counted(c: Counts, h: Head, o: Outcome) -> Counts {
-    if case::is_lost(o) {
-        return lost(c);
+// The last two lines.
+impl fmt::Display for Counts {
+    fn fmt<W: fmt::Write>(&self, f: &mut fmt::Formatter<W>) -> fmt::Result {
+        let Counts {
+            calls,
+            scripts,
+            by_rust,
+            passed,
+            failed,
+        } = *self;
+        write!(
+            f,
+            "{calls} calls, {scripts} scripts; {by_rust} answered by the Rust\n{passed} passed, {failed} failed"
+        )
     }
-    let same = case::is_same(o);
-    Counts {
-        calls: wrapping_add_u64(c.calls, one_if(h.kind == 0)),
-        scripts: wrapping_add_u64(c.scripts, one_if(h.kind == 1)),
-        by_rust: wrapping_add_u64(c.by_rust, one_if(h.by_rust == 1)),
-        passed: wrapping_add_u64(c.passed, one_if(same)),
-        failed: wrapping_add_u64(c.failed, one_if(!same)),
-        lost: false,
-    }
 }
 
-// One more failed, after which no case can be read.
-fn lost(c: Counts) -> Counts {
-    let mut d = c;
-    d.failed = wrapping_add_u64(c.failed, 1);
-    d.lost = true;
-    d
-}
-
-fn one_if(b: bool) -> u64 {
-    if b { 1 } else { 0 }
-}
-
-// The next case is read, replayed and counted; a difference is printed.
+// The next case is read, replayed and counted; a difference is printed. Whether the one after it can be read.
 fn next<R: Read, E: Write>(
     rt: &impl Print,
     from: &mut R,
     errors: &mut E,
-    c: Counts,
-) -> io::Result<Counts> {
-    let h = case::read_head(from, errors);
-    let o = case::fetch(from, errors, h);
-    say::difference(
-        rt,
-        wrapping_add_u64(wrapping_add_u64(c.passed, c.failed), 1),
-        h,
-        o,
-    )?;
-    Ok(counted(c, h, o))
+    counts: &mut Counts,
+) -> io::Result<bool> {
+    let head = case::read_head(from, errors);
+    let outcome = match head {
+        Some(head) => case::fetch(from, errors, head),
+        None => Err(Difference::Cut),
+    };
+    match outcome {
+        Ok(()) => counts.passed = counts.passed.wrapping_add(1),
+        Err(difference) => {
+            let number = counts.passed.wrapping_add(counts.failed).wrapping_add(1);
+            println!(rt; "case {number}: {difference}")?;
+            counts.failed = counts.failed.wrapping_add(1);
+            if matches!(difference, Difference::Cut | Difference::Long) {
+                return Ok(false);
+            }
+        }
+    }
+    let Some(head) = head else {
+        return Ok(false);
+    };
+    match head.kind {
+        Some(Kind::Call) => counts.calls = counts.calls.wrapping_add(1),
+        Some(Kind::Script) => counts.scripts = counts.scripts.wrapping_add(1),
+        None => {}
+    }
+    counts.by_rust = counts.by_rust.wrapping_add(u64::from(head.by_rust));
+    Ok(true)
 }
 
-// So many cases one after the other, as far as they can be read.
+// So many cases one after the other, as far as they can be read. Nothing may follow the last one.
 fn replay<R: Read, E: Write>(
     rt: &impl Print,
     from: &mut R,
     errors: &mut E,
     cases: u64,
 ) -> io::Result<Counts> {
-    let mut c = Counts {
-        calls: 0,
-        scripts: 0,
-        by_rust: 0,
-        passed: 0,
-        failed: 0,
-        lost: false,
-    };
+    let mut counts = Counts::default();
     for _ in 0..cases {
-        c = next(rt, from, errors, c)?;
-        if c.lost {
-            return Ok(c);
+        if !next(rt, from, errors, &mut counts)? {
+            return Ok(counts);
         }
     }
-    Ok(c)
-}
-
-// Nothing may follow the last case.
-fn ended<R: Read, E: Write>(
-    rt: &impl Print,
-    from: &mut R,
-    errors: &mut E,
-    c: Counts,
-) -> io::Result<Counts> {
-    let mut one = [0u8; 1];
-    if c.lost {
-        return Ok(c);
+    if case::read(from, &mut [0u8; 1], errors) != 0 {
+        println!(rt; "bytes after the last case")?;
+        counts.failed = counts.failed.wrapping_add(1);
     }
-    if case::read(from, &mut one, errors) == 0 {
-        return Ok(c);
-    }
-    say::text(rt, b"bytes after the last case\n")?;
-    Ok(lost(c))
+    Ok(counts)
 }
 
 fn main(rt: HostRuntime) -> io::Result<()> {
@@ -120,8 +101,8 @@ fn main(rt: HostRuntime) -> io::Result<()> {
     let mut head = [0u8; 16];
     let n = case::read(&mut from, &mut head, &mut errors);
     if n < 16 || calls::read::word(&head, 0) != NAME {
-        return say::text(&rt, b"no vectors\n0 passed, 1 failed\n");
+        return println!(rt; "no vectors\n0 passed, 1 failed");
     }
-    let c = replay(&rt, &mut from, &mut errors, calls::read::word(&head, 1))?;
-    say::counts(&rt, ended(&rt, &mut from, &mut errors, c)?)
+    let counts = replay(&rt, &mut from, &mut errors, calls::read::word(&head, 1))?;
+    println!(rt; "{counts}")
 }

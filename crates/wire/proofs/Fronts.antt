@@ -1,14 +1,15 @@
 -- Laws of what stands at the front of bytes: `front`, by its first byte; where it ends; whether it fits. Assumes nothing.
 use Prim.Native.Nat.{ℕ, suc, ◌+◌, ◌-◌, ◌^◌, ◌≤◌, ◌<◌}
-use mathlib.Core.Path.{◌≡◌, refl, ap, sym, ◌∙◌}
-use mathlib.Core.Bool.{Bool, true, false, cond, ◌&&◌}
-use mathlib.Core.List.{List, [], ◌∷◌}
+use mathlib.Core.Path.{◌≡◌, refl, ap, ◌∙◌}
+use mathlib.Core.Bool.{Bool, true, false, ◌&&◌}
+use mathlib.Core.List.{List}
 use native.Mathlib.Numerals.{add-one}
 use native.Mathlib.Omega.{arith}
 use borrow.Author.Tests.{le-ltb, lt-leb}
 use lib.Dec.{leb, ltb}
 use lib.ListN.{length, drop, get_or, drop_of_length-le}
 use lib.Seq.{drop-cons}
+use Rattle.std.specs.Prelude.{Some, None}
 use Rattle.rules.proofs.Wire.{front-one}
 use Rattle.rules.specs.Wire.{Front, cut, num, more, front, fits}
 use Rattle.wire.specs.Varints.{past}
@@ -28,35 +29,14 @@ front-more l p h k = rw (drop-cons l p 0 h, front, le-ltb _ _ k, add-one)
 -- the place where it ends
 pub past_more : (p low : ℕ) (f : Front) → past p (more low f) ≡ past (p + 1) f
 past_more p low cut = refl
-past_more p low (num v n) = omega arith
+past_more p low (num v n) = let e : p + suc n ≡ p + 1 + n = omega arith in ap Some e
 
-pub past_zero : (l : List ℕ) (p : ℕ) → past p (front l) ≡ 0 → front l ≡ cut
-unfolding front
-past_zero [] p e = refl
-past_zero (b ∷ bs) p e = go (past_zero bs (p + 1)) (ltb b 128) e
+pub past_none : (l : List ℕ) (p : ℕ) → past p (front l) ≡ None → front l ≡ cut
+past_none l p e = by (front l) e
   where
-    go : (past (p + 1) (front bs) ≡ 0 → front bs ≡ cut) → (t : Bool) → past p (cond t (num b 1) (more (b - 128) (front bs))) ≡ 0
-        → cond t (num b 1) (more (b - 128) (front bs)) ≡ cut
-    go r true e = absurd (omega (arith, e))
-    go r false e = ap (more (b - 128)) (r (sym (past_more p (b - 128) (front bs)) ∙ e))
-
--- how many bytes it takes: none but those that are there
-abbrev pub width : Front → ℕ
-width cut = 0
-width (num v n) = n
-
-width_more : (low : ℕ) (f : Front) → width (more low f) ≤ suc (width f)
-width_more low cut = omega arith
-width_more low (num v n) = omega arith
-
-pub width_within : (l : List ℕ) → width (front l) ≤ length l
-unfolding front
-width_within [] = omega arith
-width_within (b ∷ bs) = by (width_within bs) (ltb b 128)
-  where
-    by : width (front bs) ≤ length bs → (t : Bool) → width (cond t (num b 1) (more (b - 128) (front bs))) ≤ suc (length bs)
-    by r true = omega arith
-    by r false = omega (arith, width_more (b - 128) (front bs))
+    by : (f : Front) → past p f ≡ None → f ≡ cut
+    by cut e = refl
+    by (num v n) e = cc
 
 -- whether it fits
 pub fits-long : (v n : ℕ) → 10 < n → fits v n ≡ false

@@ -5,141 +5,109 @@
 ghost use Rattle.std.specs.Prelude.{◌≡◌, ◌+◌, ◌≤◌, ◌<◌, ◌^◌, length};
 ghost use Rattle.rules.specs.Wire.{varint_of};
 ghost use Rattle.text.specs.Put.{Put};
-ghost use Rattle.wire.specs.Varints.{varint_at, tenth_at, end_of};
+ghost use Rattle.wire.specs.Varints.{read_at, tenth_at, end_of};
 
-// What stands at a place: 0 and a number; or 28, cut short; or 29, over ten bytes or 64 bits. `next` is the place after it, of a cut one its own.
-#[derive(Clone, Copy)]
+// A number that was read, and the place after it.
+#[derive(Clone, Copy, Debug, PartialEq, Eq)]
 pub struct Varint {
-    pub fault: u64,
     pub value: u64,
     pub next: usize,
 }
 
+// Why no number was read.
+#[derive(Clone, Copy, Debug, PartialEq, Eq)]
+pub enum Fault {
+    // The bytes end within it.
+    CutShort,
+    // It is over ten bytes or 64 bits; `next` is the place after it.
+    Malformed { next: usize },
+}
+
+// The place of the last byte that a number may have, counted from its first, and what a 1 there is worth.
+const TENTH: usize = 9;
+
+const TENTH_UNIT: u64 = 1 << 63;
+
 // The varint at place `at`: those of one byte and of two first, which most are. It has two calls of `read_long`, since the compiler would put a function that is
 // called once into its caller, and this one is to be short.
-pub fn read_varint(bytes: &[u8], at: usize) -> Varint
-    ensures { result ≡ varint_at bytes.now at }
+pub fn read_varint(bytes: &[u8], at: usize) -> Result<Varint, Fault>
+    ensures { result ≡ read_at bytes.now at }
 {
     if bytes.len() <= at {
-        return Varint {
-            fault: 28,
-            value: 0,
-            next: at,
-        };
+        return Err(Fault::CutShort);
     }
-    let b = bytes[at] as u64;
-    if b < 128 {
-        return Varint {
-            fault: 0,
-            value: b,
+    let first = u64::from(bytes[at]);
+    if first < 128 {
+        return Ok(Varint {
+            value: first,
             next: at + 1,
-        };
+        });
     }
     if bytes.len() - at < 2 {
         return read_long(bytes, at);
     }
-    let c = bytes[at + 1] as u64;
-    if c < 128 {
-        return Varint {
-            fault: 0,
-            value: b - 128 + 128 * c,
+    let second = u64::from(bytes[at + 1]);
+    if second < 128 {
+        return Ok(Varint {
+            value: first - 128 + 128 * second,
             next: at + 2,
-        };
+        });
     }
     read_long(bytes, at)
 }
 
-// The same, of any length.
-fn read_long(bytes: &[u8], at: usize) -> Varint
+// The same, of any length, byte after byte.
+fn read_long(bytes: &[u8], at: usize) -> Result<Varint, Fault>
     requires { at ≤ length bytes.now }
-    ensures { result ≡ varint_at bytes.now at }
-{
-    let v = front(&bytes[at..]);
-    Varint {
-        fault: v.fault,
-        value: v.value,
-        next: at + v.next,
-    }
-}
-
-// The varint at the front, byte after byte.
-fn front(bytes: &[u8]) -> Varint
-    ensures { result ≡ varint_at bytes.now 0 }
+    ensures { result ≡ read_at bytes.now at }
 {
     let mut value: u64 = 0;
     let mut unit: u64 = 1;
-    let mut i: usize = 0;
-    while i < 9 {
-        if bytes.len() <= i {
-            return Varint {
-                fault: 28,
-                value: 0,
-                next: 0,
-            };
+    for i in 0..TENTH {
+        if bytes.len() <= at + i {
+            return Err(Fault::CutShort);
         }
-        let b = bytes[i] as u64;
-        if b < 128 {
-            return Varint {
-                fault: 0,
-                value: value + unit * b,
-                next: i + 1,
-            };
+        let byte = u64::from(bytes[at + i]);
+        if byte < 128 {
+            return Ok(Varint {
+                value: value + unit * byte,
+                next: at + i + 1,
+            });
         }
-        value += unit * (b - 128);
+        value += unit * (byte - 128);
         unit *= 128;
-        i += 1;
     }
-    tenth(bytes, value)
+    tenth(bytes, at + TENTH, value)
 }
 
-// The tenth byte, after nine that are worth `value`: 0 or 1, or the number is over 64 bits.
-fn tenth(bytes: &[u8], value: u64) -> Varint
-    requires { (9 ≤ length bytes.now) × (value < 2 ^ 63) }
-    ensures { result ≡ tenth_at bytes.now value }
+// The tenth byte, at place `at`, after nine that are worth `value`: 0 or 1, or the number is over 64 bits.
+fn tenth(bytes: &[u8], at: usize, value: u64) -> Result<Varint, Fault>
+    requires { (at ≤ length bytes.now) × (value < 2 ^ 63) }
+    ensures { result ≡ tenth_at bytes.now at value }
 {
-    if bytes.len() <= 9 {
-        return Varint {
-            fault: 28,
-            value: 0,
-            next: 0,
-        };
+    if bytes.len() <= at {
+        return Err(Fault::CutShort);
     }
-    let b = bytes[9] as u64;
+    let b = u64::from(bytes[at]);
     if b < 2 {
-        return Varint {
-            fault: 0,
-            value: value + 9223372036854775808 * b,
-            next: 10,
-        };
+        return Ok(Varint {
+            value: value + TENTH_UNIT * b,
+            next: at + 1,
+        });
     }
-    let end = end_of(bytes, 9);
-    if end == 0 {
-        return Varint {
-            fault: 28,
-            value: 0,
-            next: 0,
-        };
-    }
-    Varint {
-        fault: 29,
-        value: 0,
-        next: end,
+    match end_of(bytes, at) {
+        Some(next) => Err(Fault::Malformed { next }),
+        None => Err(Fault::CutShort),
     }
 }
 
-// The place after the first byte below 128 from `at` on; 0 where there is none.
-fn end_of(bytes: &[u8], at: usize) -> usize
+// The place after the first byte below 128 from `at` on.
+fn end_of(bytes: &[u8], at: usize) -> Option<usize>
     requires { at ≤ length bytes.now }
     ensures { result ≡ end_of bytes.now at }
 {
-    let mut p = at;
-    while p < bytes.len() {
-        if bytes[p] < 128 {
-            return p + 1;
-        }
-        p += 1;
-    }
-    0
+    let length = bytes[at..].iter().position(|&byte| byte < 128)?;
+    Some(at + length + 1)
 }
 
 // How many bytes the number takes.

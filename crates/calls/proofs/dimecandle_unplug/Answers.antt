@@ -1,15 +1,18 @@
 -- `calls::dimecandle_unplug` meets its contract, one law for each answer. Assumes nothing.
-use Rattle.calls.proofs.UnplugEntry.{entry_done, entry_length, entry_other, entry-room}
+use Prim.Native.Nat.{◌≤◌}
+use lib.ListN.{length, length-set}
+use native.Mathlib.Omega.{arith}
+use Rattle.calls.proofs.UnplugEntry.{entry_done, entry_refused}
 use Rattle.calls.proofs.dimecandle_unplug.Goals as goal
 
-pub returns-then-state-ne967 : goal.returns-then-state-ne967
-returns-then-state-ne967 c = entry_length c.args.state.now c.args.id c.args.verdict.now c.if-state-ne967.true
+pub bounds-verdict-0 : goal.bounds-verdict-0
+bounds-verdict-0 c = let r : 2 ≤ length c.args.verdict.now = c.in-Ok.ensures.2 in omega arith
 
-pub returns-then-verdict-lt2 : goal.returns-then-verdict-lt2
-returns-then-verdict-lt2 c = entry-room c.args.state.now c.args.id c.args.verdict.now c.if-state-ne967.false c.if-verdict-lt2.true
+pub bounds-verdict-1 : goal.bounds-verdict-1
+bounds-verdict-1 c = let r : 2 ≤ length c.args.verdict.now = c.in-Ok.ensures.2 in grind (arith, length-set)
 
-pub returns-then-told-ne0 : goal.returns-then-told-ne0
-returns-then-told-ne0 c = entry_other c.args.state.now c.args.id c.args.verdict.now c.if-state-ne967.false c.if-verdict-lt2.false c.unplug-told.result c.unplug-told.ensures c.if-told-ne0.true
+pub returns-in-Ok : goal.returns-in-Ok
+returns-in-Ok c = entry_done c.args.state.now c.args.id c.args.verdict.now c.in-Ok.told c.in-Ok.ensures
 
-pub returns : goal.returns
-returns c = entry_done c.args.state.now c.args.id c.args.verdict.now c.if-state-ne967.false c.if-verdict-lt2.false c.unplug-told.result c.unplug-told.ensures c.if-told-ne0.false
+pub returns-in-Err : goal.returns-in-Err
+returns-in-Err c = rw c.number.ensures (entry_refused c.args.state.now c.args.id c.args.verdict.now c.in-Err.why c.in-Err.ensures)

@@ -1,6 +1,7 @@
 -- `compare::show` prints the whole text: it fits, and stands at the front of what is written. Assumes nothing.
 use Rattle.std.proofs.Common.{◌≡◌, ◌≤◌, ◌∙◌, ℕ, List, Bool, length, take, drop, arith, ap, sym, subst, length-take-le, rules}
 use Rattle.std.proofs.Math.Seq.{take-append_seam}
+use Rattle.std.proofs.lemmas.Result.{on_ok_weaker}
 use Rattle.std.specs.Io.KnownBytes.{Appends}
 use Rattle.text.specs.Put.{Put}
 use Rattle.text.proofs.Laws.{put_whole, put-length}
@@ -27,7 +28,7 @@ pub slice_bounds-write_output-end : goal.slice_bounds-write_output-end
 slice_bounds-write_output-end g c = sym (length-take-le _ _ (fits c.args.readable c.args.first.now c.args.second.now (search rules) c.put_comparison-n.ensures))
 
 pub returns-then-readable : goal.returns-then-readable
-returns-then-readable g c = λ t. subst (Appends _ _) (front c.args.readable c.args.first.now c.args.second.now (search rules) c.put_comparison-n.ensures) (c.write_output-printed.ensures t)
+returns-then-readable g c = on_ok_weaker _ (subst (Appends _ _) (front c.args.readable c.args.first.now c.args.second.now (search rules) c.put_comparison-n.ensures)) c.write_output-printed.ensures
 
 pub returns-else-readable : goal.returns-else-readable
-returns-else-readable g c = λ t. subst (Appends _ _) (front c.args.readable c.args.first.now c.args.second.now (search rules) c.put_comparison-n.ensures) (c.write_output-printed.ensures t)
+returns-else-readable g c = on_ok_weaker _ (subst (Appends _ _) (front c.args.readable c.args.first.now c.args.second.now (search rules) c.put_comparison-n.ensures)) c.write_output-printed.ensures

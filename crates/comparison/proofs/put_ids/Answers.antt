@@ -1,23 +1,53 @@
 -- `comparison::put_ids` meets its contract: what is left to be put is the lines of what is left of both messages. Assumes nothing.
+use mathlib.Core.Path.{sym, ◌∙◌}
 use native.Mathlib.Omega.{arith}
 use borrow.Author.Rules.{rules}
 use Rattle.comparison.proofs.Places.{walk_start, walk_length, walk_end, walk_less, walk_turn}
 use Rattle.comparison.proofs.put_ids.Goals as goal
 
-pub loop-next-init : goal.loop-next-init
-loop-next-init c = walk_start (omega (arith, c.well_formed)) (omega (arith, c.ranges)) c.requires.0 c.requires.1 c.begin-i.ensures c.begin-j.ensures c.next_id-next.ensures
+pub loop-id-init : goal.loop-id-init
+loop-id-init c = record {
+  first-words = c.new-first.ensures.same;
+  second-words = c.new-second.ensures.same;
+  walked = walk_start (omega (arith, c.well_formed)) (omega (arith, c.ranges)) c.requires.0 c.requires.1 c.new-first.ensures.first c.new-second.ensures.first;
+}
 
-pub next_id-next-requires-in-loop-next : goal.next_id-next-requires-in-loop-next
-next_id-next-requires-in-loop-next c = (c.requires.0.lists, c.requires.1.lists)
+pub next_id-requires : goal.next_id-requires
+next_id-requires c = let i = c.loop-id.invariant in rw (i.first-words, i.second-words) (c.requires.0.lists, c.requires.1.lists)
 
-pub loop-next-smaller : goal.loop-next-smaller
-loop-next-smaller c = walk_less c.loop-next.invariant c.loop-next-test.true c.sets_at-s.ensures c.sets_at-t.ensures c.past-i.ensures c.past-j.ensures
+pub sets_at-s-requires : goal.sets_at-s-requires
+sets_at-s-requires c = rw c.loop-id.invariant.first-words c.requires.0.lists
 
-pub loop-next-preserved : goal.loop-next-preserved
-loop-next-preserved c = walk_turn c.loop-next.invariant c.loop-next-test.true c.sets_at-s.ensures c.sets_at-t.ensures c.past-i.ensures c.past-j.ensures c.requires.0.lists c.requires.1.lists c.put_id-end.ensures c.next_id-next-in-loop-next.ensures
+pub sets_at-t-requires : goal.sets_at-t-requires
+sets_at-t-requires c = rw c.loop-id.invariant.second-words c.requires.1.lists
+
+pub pass-requires : goal.pass-requires
+pass-requires c = c.loop-id.invariant.walked.first-place
+
+pub pass-requires-in-Some : goal.pass-requires-in-Some
+pass-requires-in-Some c = c.loop-id.invariant.walked.second-place
+
+pub loop-id-smaller : goal.loop-id-smaller
+loop-id-smaller c =
+    let i = c.loop-id.invariant in
+    walk_less i.walked (rw (i.first-words, i.second-words) at (sym c.next_id.ensures ∙ c.in-Some.is))
+    (rw i.first-words at c.sets_at-s.ensures) (rw i.second-words at c.sets_at-t.ensures) c.pass.ensures.passed c.pass-in-Some.ensures.passed
+
+pub loop-id-preserved : goal.loop-id-preserved
+loop-id-preserved c =
+    let i = c.loop-id.invariant in
+    record {
+      first-words = c.pass.ensures.same ∙ i.first-words;
+      second-words = c.pass-in-Some.ensures.same ∙ i.second-words;
+      walked =
+          walk_turn i.walked (rw (i.first-words, i.second-words) at (sym c.next_id.ensures ∙ c.in-Some.is))
+          (rw i.first-words at c.sets_at-s.ensures) (rw i.second-words at c.sets_at-t.ensures) c.pass.ensures.passed c.pass-in-Some.ensures.passed
+          c.requires.0.lists c.requires.1.lists c.put_id-end.ensures;
+    }
 
 pub shape_of-out : goal.shape_of-out
 shape_of-out c = search (rules, walk_length)
 
 pub returns : goal.returns
-returns c = search (rules, walk_end)
+returns c = let i = c.loop-id.invariant in
+    walk_end i.walked (rw (i.first-words, i.second-words) at (sym c.next_id.ensures ∙ c.in_default.is))

@@ -1,9 +1,14 @@
 -- `comparison::put_ids` meets its contract: what is left to be put is the lines of what is left of both messages. Assumes nothing.
+use mathlib.Core.Path.{◌≡◌}
 use Rattle.comparison.proofs.Places.{Walked, left}
 use Rattle.comparison.proofs.put_ids.Given as goal
 
-abbrev pub invariant-loop-next : goal.invariant-loop-next
-invariant-loop-next l = Walked l.a l.b l.initial.out l.at l.out l.end l.i l.j l.next
+abbrev pub invariant-loop-id : goal.invariant-loop-id
+invariant-loop-id l = record {
+  first-words : l.first.words.now ≡ l.a;
+  second-words : l.second.words.now ≡ l.b;
+  walked : Walked l.a l.b l.initial.out l.at l.out l.end l.first.places l.second.places;
+}
 
-abbrev pub decreases-loop-next : goal.decreases-loop-next
-decreases-loop-next l = left l.a l.b l.i l.j
+abbrev pub decreases-loop-id : goal.decreases-loop-id
+decreases-loop-id l = left l.a l.b l.first.places l.second.places

@@ -6,4 +6,4 @@ use Rattle.comparison.proofs.put_refused.Goals as goal
 
 pub returns : goal.returns
 unfolding refused_text
-returns c = rest-last (rest_put (rest_put (rest_all (omega (arith, c.well_formed, c.ranges)) (omega (arith, c.well_formed, c.ranges))) c.put_bytes-p.ensures) c.put_decimal-q.ensures) c.put_byte.ensures
+returns c = rest-last (rest_put (rest_put (rest_all (omega (arith, c.well_formed, c.ranges)) (omega (arith, c.well_formed, c.ranges))) c.put_bytes-p.ensures) (rw c.number.ensures at c.put_decimal-q.ensures)) c.put_byte.ensures

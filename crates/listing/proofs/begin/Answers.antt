@@ -5,4 +5,4 @@ use Rattle.tracker.specs.declared.Tracker.{Tracker}
 use Rattle.listing.proofs.begin.Goals as goal
 
 pub returns : goal.returns
-returns c = ap (λ (t : Tracker). record { tracker = t; ids = replicate 256 0; kinds = replicate 256 0; len = 0; printed = 0 }) c.new-tracker.ensures
+returns c = ap (λ (t : Tracker). record { tracker = t; ids = replicate 256 0; kinds = replicate 256 0; len = 0; printed = 0 }) c.new.ensures

@@ -12,10 +12,10 @@ pub overflow_mul-n : goal.overflow_mul-n
 overflow_mul-n c = omega (arith, read_small c.loop-i.invariant c.loop-i-test.true)
 
 pub overflow_add-n : goal.overflow_add-n
-overflow_add-n c = omega (arith, read_small c.loop-i.invariant c.loop-i-test.true, c.byte_at.ensures, c.shared_slice_known-1.given (c.args.at + (c.loop-i.i - 1)))
+overflow_add-n c = omega (arith, read_small c.loop-i.invariant c.loop-i-test.true, c.byte_at.ensures, c.type_inv.s (c.args.at + (c.loop-i.i - 1)))
 
 pub loop-i-preserved : goal.loop-i-preserved
-loop-i-preserved c = read_next c.loop-i.invariant c.loop-i-test.true c.byte_at.ensures (omega (arith, c.byte_at.ensures, c.shared_slice_known-1.given (c.args.at + (c.loop-i.i - 1))))
+loop-i-preserved c = read_next c.loop-i.invariant c.loop-i-test.true c.byte_at.ensures (omega (arith, c.byte_at.ensures, c.type_inv.s (c.args.at + (c.loop-i.i - 1))))
 
 pub returns : goal.returns
 returns c = search (rules, read-end)

@@ -2,8 +2,5 @@
 use Rattle.listing.proofs.Replay.{Replaying}
 use Rattle.listing.proofs.put_listing.Given as goal
 
-abbrev pub invariant-loop-left : goal.invariant-loop-left
-invariant-loop-left l = Replaying l.script l.initial.out l.out l.z l.p l.at l.left
-
-abbrev pub decreases-loop-left : goal.decreases-loop-left
-decreases-loop-left l = l.left
+abbrev pub invariant-loop-k : goal.invariant-loop-k
+invariant-loop-k l = Replaying l.script l.initial.out l.out l.z l.p l.k

@@ -4,17 +4,20 @@ use borrow.Author.Rules.{rules}
 use Rattle.unplug.proofs.Within.{ask-start, ask-room, ask-stop, ask-next, ask-end}
 use Rattle.unplug.proofs.at_most.Goals as goal
 
-pub loop-left-init : goal.loop-left-init
-loop-left-init c = search (rules, ask-start)
+pub loop-i-init : goal.loop-i-init
+loop-i-init g c = λ f h. ask-start
+
+pub overflow_mul-i : goal.overflow_mul-i
+overflow_mul-i g c = let room = ask-room _ _ _ _ _ c.requires.room c.loop-i-test.true in omega arith
+
+pub overflow_add-k : goal.overflow_add-k
+overflow_add-k g c = let room = ask-room _ _ _ _ _ c.requires.room c.loop-i-test.true in omega arith
 
 pub returns-then-most-word : goal.returns-then-most-word
-returns-then-most-word c = search (rules, ask-stop)
+returns-then-most-word g c = λ f h. ask-stop (c.loop-i.invariant f h) c.loop-i-test.true (h _ _ c.word.ensures) c.if-most-word.true
 
-pub overflow_add-at : goal.overflow_add-at
-overflow_add-at c = let room = ask-room c.loop-left.invariant c.loop-left-test.true in omega arith
-
-pub loop-left-preserved : goal.loop-left-preserved
-loop-left-preserved c = search (rules, ask-next)
+pub loop-i-preserved : goal.loop-i-preserved
+loop-i-preserved g c = λ f h. ask-next (c.loop-i.invariant f h) c.loop-i-test.true (h _ _ c.word.ensures) c.if-most-word.false
 
 pub returns : goal.returns
-returns c = search (rules, ask-end)
+returns g c = λ f h. ask-end (c.loop-i.invariant f h) c.loop-i-test.false

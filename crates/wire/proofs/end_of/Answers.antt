@@ -1,16 +1,16 @@
--- `wire::end_of` meets its contract: the end that is looked for is that of what stands at `p`. Assumes nothing.
-use borrow.Author.Rules.{rules}
-use Rattle.wire.proofs.Reading.{seek_start, seek_found, seek_next, seek_none}
+-- `wire::end_of` meets its contract: where `position` finds no byte, and where it finds one. Assumes nothing.
+use Rattle.std.proofs.Common.{rules, arith, tests, ltb}
+use Rattle.std.proofs.lemmas.Iterator.{YieldsList-from_slice}
+use Rattle.std.proofs.lemmas.Iterator.Search.{position_from_yields_List}
+use Rattle.wire.proofs.Reading.{none_ends, some_ends}
 use Rattle.wire.proofs.end_of.Goals as goal
 
-pub loop-p-init : goal.loop-p-init
-loop-p-init c = search (rules, seek_start)
-
-pub returns-then-bytes-p-lt128 : goal.returns-then-bytes-p-lt128
-returns-then-bytes-p-lt128 c = search (rules, seek_found)
-
-pub loop-p-preserved : goal.loop-p-preserved
-loop-p-preserved c = search (rules, seek_next)
+pub returns-in_err-length : goal.returns-in_err-length
+returns-in_err-length c =
+    let e = position_from_yields_List (λ b. ltb b 128) _ _ c.position.result c.position.ensures.ran (YieldsList-from_slice _ c.iter.ensures.rest) (λ x b q k. search (rules, tests)) in
+    none_ends c.args.bytes.now c.args.at e (omega arith) c.in_err-length.was c.from_residual.ensures
 
 pub returns : goal.returns
-returns c = search (rules, seek_none)
+returns c =
+    let e = position_from_yields_List (λ b. ltb b 128) _ _ c.position.result c.position.ensures.ran (YieldsList-from_slice _ c.iter.ensures.rest) (λ x b q k. search (rules, tests)) in
+    some_ends c.args.bytes.now c.args.at e (omega arith) c.in_ok-length.was

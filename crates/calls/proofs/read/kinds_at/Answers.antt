@@ -1,8 +1,8 @@
--- `calls::read::kinds_at` meets its contract: the loop fills 260 kinds. Assumes nothing.
-use Prim.Native.Nat.{◌+◌, ◌%◌}
-use mathlib.Core.Path.{ap}
+-- `calls::read::kinds_at` meets its contract: the loop fills one place after the other. Assumes nothing.
 use native.Mathlib.Omega.{arith}
 use borrow.Author.Rules.{rules}
+use Prim.Native.Nat.{◌+◌, ◌%◌}
+use mathlib.Core.Path.{ap}
 use Rattle.calls.proofs.ReadFilled.{fill_start, fill_next, kinds-end}
 use Rattle.calls.proofs.read.kinds_at.Goals as goal
 

@@ -1,21 +1,16 @@
--- `calls::read::number_at` meets its contract: the loop reads from the last byte to the first. Assumes nothing.
-use Prim.Native.Nat.{◌+◌, ◌-◌}
+-- `calls::read::number_at` meets its contract: the first i bytes are read. Assumes nothing.
 use native.Mathlib.Omega.{arith}
 use borrow.Author.Rules.{rules}
-use Rattle.calls.proofs.ReadNumbers.{read-start, read_small, read_next, read-end}
+use Rattle.calls.proofs.ReadFilled.{fill_start, fill_next}
+use Rattle.calls.proofs.ReadNumbers.{number_read}
+use Prim.Native.Nat.{◌+◌}
 use Rattle.calls.proofs.read.number_at.Goals as goal
 
 pub loop-i-init : goal.loop-i-init
-loop-i-init c = read-start
-
-pub overflow_mul-n : goal.overflow_mul-n
-overflow_mul-n c = omega (arith, read_small c.loop-i.invariant c.loop-i-test.true)
-
-pub overflow_add-n : goal.overflow_add-n
-overflow_add-n c = omega (arith, read_small c.loop-i.invariant c.loop-i-test.true, c.byte_at.ensures, c.shared_slice_known-1.given (c.args.at + (c.loop-i.i - 1)))
+loop-i-init c = search (rules, fill_start)
 
 pub loop-i-preserved : goal.loop-i-preserved
-loop-i-preserved c = read_next c.loop-i.invariant c.loop-i-test.true c.byte_at.ensures (omega (arith, c.byte_at.ensures, c.shared_slice_known-1.given (c.args.at + (c.loop-i.i - 1))))
+loop-i-preserved c = fill_next c.loop-i.invariant (c.args.at + c.loop-i.i) c.loop-i-test.true (omega arith) (search rules)
 
 pub returns : goal.returns
-returns c = search (rules, read-end)
+returns c = rw (number_read c.args.s.now c.args.at c.loop-i.invariant c.loop-i-test.false) at c.from_le_bytes.ensures

@@ -1,9 +1,7 @@
--- `calls::read::number_at` meets its contract: the loop reads from the last byte to the first. Assumes nothing.
-use Rattle.calls.proofs.ReadNumbers.{Reading}
+-- `calls::read::number_at` meets its contract: the first i bytes are read. Assumes nothing.
+use Rattle.calls.proofs.ReadFilled.{Filled}
+use Rattle.calls.proofs.ReadNumbers.{byte_at}
 use Rattle.calls.proofs.read.number_at.Given as goal
 
 abbrev pub invariant-loop-i : goal.invariant-loop-i
-invariant-loop-i l = Reading l.s l.at l.n l.i
-
-abbrev pub decreases-loop-i : goal.decreases-loop-i
-decreases-loop-i l = l.i
+invariant-loop-i l = Filled 8 (byte_at l.s) 1 l.at l.i l.bytes

@@ -1,7 +1,7 @@
--- `calls::read::records_at` meets its contract: the loop fills 64 records, 10 words apart. Assumes nothing.
-use Prim.Native.Nat.{◌+◌, ◌*◌}
+-- `calls::read::records_at` meets its contract: the loop fills one place after the other. Assumes nothing.
 use native.Mathlib.Omega.{arith}
 use borrow.Author.Rules.{rules}
+use Prim.Native.Nat.{◌+◌, ◌*◌}
 use Rattle.calls.proofs.ReadFilled.{fill_start, fill_next, records-end}
 use Rattle.calls.proofs.read.records_at.Goals as goal
 

@@ -1,11 +1,7 @@
 -- `calls::read::records_at` meets its contract: the loop fills 64 records, 10 words apart. Assumes nothing.
-use Prim.Native.Nat.{◌-◌}
 use Rattle.calls.specs.Layout.{record_at}
 use Rattle.calls.proofs.ReadFilled.{Filled}
 use Rattle.calls.proofs.read.records_at.Given as goal
 
 abbrev pub invariant-loop-i : goal.invariant-loop-i
-invariant-loop-i l = Filled 64 (record_at l.s) 10 l.k l.i l.out
-
-abbrev pub decreases-loop-i : goal.decreases-loop-i
-decreases-loop-i l = 64 - l.i
+invariant-loop-i l = Filled 64 (record_at l.s) 10 l.k l.i l.records

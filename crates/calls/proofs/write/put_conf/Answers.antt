@@ -5,4 +5,4 @@ use Rattle.calls.proofs.WriteWords.{conf-bytes}
 use Rattle.calls.proofs.write.put_conf.Goals as goal
 
 pub returns : goal.returns
-returns c = rw conf-bytes (rest-last (rest_put (rest_put (rest_put (rest_put (rest_all (omega (arith, c.well_formed, c.ranges)) (omega (arith, c.well_formed, c.ranges))) c.put_set-a.ensures) c.put_set-b.ensures) c.put_set-c.ensures) c.put_set-d.ensures) c.put_flag.ensures)
+returns c = rw conf-bytes (rest-last (rest_put (rest_put (rest_put (rest_put (rest_all (omega (arith, c.well_formed, c.ranges)) (omega (arith, c.well_formed, c.ranges))) c.put_ids-a.ensures) c.put_ids-b.ensures) c.put_ids-c.ensures) c.put_ids-d.ensures) c.put_flag.ensures)

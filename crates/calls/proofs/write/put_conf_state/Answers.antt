@@ -5,4 +5,4 @@ use Rattle.calls.proofs.WriteWords.{conf-state-bytes}
 use Rattle.calls.proofs.write.put_conf_state.Goals as goal
 
 pub returns : goal.returns
-returns c = rw conf-state-bytes (rest-last (rest_put (rest_put (rest_put (rest_put (rest_all (omega (arith, c.well_formed, c.ranges)) (omega (arith, c.well_formed, c.ranges))) c.put_list-a.ensures) c.put_list-b.ensures) c.put_list-c.ensures) c.put_list-d.ensures) c.put_flag.ensures)
+returns c = rw conf-state-bytes (rest-last (rest_put (rest_put (rest_put (rest_put (rest_all (omega (arith, c.well_formed, c.ranges)) (omega (arith, c.well_formed, c.ranges))) c.put_ids-a.ensures) c.put_ids-b.ensures) c.put_ids-c.ensures) c.put_ids-d.ensures) c.put_flag.ensures)

@@ -5,4 +5,4 @@ use Rattle.calls.proofs.WriteWords.{state-bytes}
 use Rattle.calls.proofs.write.put_state.Goals as goal
 
 pub returns : goal.returns
-returns c = rw state-bytes (rest-last (rest_put (rest_put (rest_put (rest_all (omega (arith, c.well_formed, c.ranges)) (omega (arith, c.well_formed, c.ranges))) c.put_conf-a.ensures) c.put_set-b.ensures) c.put_records-c.ensures) c.put_word.ensures)
+returns c = rw state-bytes (rest-last (rest_put (rest_put (rest_put (rest_all (omega (arith, c.well_formed, c.ranges)) (omega (arith, c.well_formed, c.ranges))) c.put_conf-a.ensures) c.put_ids-b.ensures) c.put_records-c.ensures) c.put_word.ensures)

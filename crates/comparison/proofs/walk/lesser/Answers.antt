@@ -2,7 +2,7 @@
 use native.Mathlib.Omega.{arith}
 use borrow.Author.Rules.{rules}
 use Rattle.comparison.proofs.ListWords.{count-few}
-use Rattle.comparison.proofs.Places.{lesser_end, lesser_kept, lesser_less, lesser_first}
+use Rattle.comparison.proofs.Places.{lesser_end, lesser_met, lesser_first}
 use Rattle.comparison.proofs.walk.lesser.Goals as goal
 
 pub returns-then-count-at : goal.returns-then-count-at
@@ -17,11 +17,8 @@ offset_bounds-words-k-2 c = omega (arith, count-few c.args.words.now c.args.k c.
 pub bounds-words-k-2 : goal.bounds-words-k-2
 bounds-words-k-2 c = omega (arith, count-few c.args.words.now c.args.k c.requires.0 c.requires.1)
 
-pub returns-then-found-id : goal.returns-then-found-id
-returns-then-found-id c = search (rules, lesser_kept)
+pub returns-in-Some : goal.returns-in-Some
+returns-in-Some c = rw c.min.ensures (lesser_met c.args.words.now c.args.k c.requires.0 c.requires.1 c.args.at c.if-count-at.false c.in-Some.is)
 
-pub returns-else-found-id : goal.returns-else-found-id
-returns-else-found-id c = search (rules, lesser_less, lesser_first)
-
-pub returns-else-found : goal.returns-else-found
-returns-else-found c = search (rules, lesser_less, lesser_first)
+pub returns-in-None : goal.returns-in-None
+returns-in-None c = lesser_first c.args.words.now c.args.k c.requires.0 c.requires.1 c.args.at c.if-count-at.false c.in-None.is

@@ -6,7 +6,7 @@ use Prim.Native.Nat.{◌-◌}
 use Rattle.confstate.proofs.read.packed.Given as goal
 
 abbrev pub invariant-loop-p : goal.invariant-loop-p
-invariant-loop-p l = Packing l.bytes (list_in l.initial.list 0) (length (list_in l.initial.list 0)) l.list l.n l.over l.p
+invariant-loop-p l = Packing l.bytes (list_in l.initial.list 0) (length (list_in l.initial.list 0)) l.list l.n l.p
 
 abbrev pub decreases-loop-p : goal.decreases-loop-p
 decreases-loop-p l = length l.bytes - l.p

@@ -2,8 +2,8 @@
 use Rattle.confstate.proofs.Fields.{single-full, single_more}
 use Rattle.confstate.proofs.read.single.Goals as goal
 
-pub returns-then-n-ge64 : goal.returns-then-n-ge64
-returns-then-n-ge64 c = single-full c.requires c.args.value c.if-n-ge64.true
+pub returns-then-n-ge-IDS : goal.returns-then-n-ge-IDS
+returns-then-n-ge-IDS c = single-full c.requires c.args.value c.if-n-ge-IDS.true
 
 pub returns : goal.returns
-returns c = single_more c.requires c.args.value c.if-n-ge64.false
+returns c = single_more c.requires c.args.value c.if-n-ge-IDS.false

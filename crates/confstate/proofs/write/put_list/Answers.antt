@@ -2,7 +2,6 @@
 use mathlib.Core.Path.{refl}
 use native.Mathlib.Omega.{arith}
 use Rattle.text.proofs.Laws.{put-length}
-use Rattle.confstate.proofs.Sizing.{block-count, block_lent}
 use Rattle.confstate.proofs.Writing.{listing_none, listing-room, listing-first, listing-next, listing-put}
 use Rattle.confstate.proofs.write.put_list.Goals as goal
 
@@ -13,23 +12,16 @@ pub bounds-out-at : goal.bounds-out-at
 bounds-out-at c = omega (arith, listing-room c.requires c.if-packed-eq0.false)
 
 pub put_varint-p-requires : goal.put_varint-p-requires
-put_varint-p-requires c = let a = c.args in
-    listing-first c.requires c.if-packed-eq0.false a.out.now (omega arith) refl
+put_varint-p-requires c = listing-first c.requires c.if-packed-eq0.false c.args.out.now (omega arith) refl
 
-pub overflow_add-k : goal.overflow_add-k
-overflow_add-k c = omega (arith, block-count c.requires.block, c.requires.block.words)
-
-pub slice_bounds-put_packed-end : goal.slice_bounds-put_packed-end
-slice_bounds-put_packed-end c = omega (arith, block-count c.requires.block, c.requires.block.words)
+pub ids-requires : goal.ids-requires
+ids-requires c = c.requires.block
 
 pub put_packed-requires : goal.put_packed-requires
-put_packed-requires c = let a = c.args in
-    listing-next c.requires c.if-packed-eq0.false a.out.now (omega arith) refl c.put_varint-p.ensures (block_lent a.words.now a.k refl)
+put_packed-requires c = listing-next c.requires c.if-packed-eq0.false c.args.out.now (omega arith) refl c.put_varint-p.ensures c.ids.ensures
 
 pub shape_of-out : goal.shape_of-out
-shape_of-out c = let a = c.args in
-    put-length (listing-put c.requires c.if-packed-eq0.false a.out.now (omega arith) refl c.put_varint-p.ensures (block_lent a.words.now a.k refl) c.put_packed.ensures)
+shape_of-out c = put-length (listing-put c.requires c.if-packed-eq0.false c.args.out.now (omega arith) refl c.put_varint-p.ensures c.ids.ensures c.put_packed.ensures)
 
 pub returns : goal.returns
-returns c = let a = c.args in
-    listing-put c.requires c.if-packed-eq0.false a.out.now (omega arith) refl c.put_varint-p.ensures (block_lent a.words.now a.k refl) c.put_packed.ensures
+returns c = listing-put c.requires c.if-packed-eq0.false c.args.out.now (omega arith) refl c.put_varint-p.ensures c.ids.ensures c.put_packed.ensures

@@ -1,0 +1,5 @@
+-- `Output::put_decimal` calls itself on a smaller number. Assumes nothing.
+use Rattle.text.proofs.Output.+put_decimal.Given as goal
+
+abbrev pub decreases-put_decimal : goal.decreases-put_decimal
+decreases-put_decimal l = l.n
