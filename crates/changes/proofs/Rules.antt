@@ -30,23 +30,22 @@ use Rattle.idset.proofs.Places.{length_insert}
 use Rattle.tracker.specs.Bridge.{configuration_of, change_log_of, log_of, map_change_of}
 use Rattle.tracker.specs.declared.MapChangeType.TheVariants.{Add}
 use Rattle.tracker.proofs.Bridge.{log_back}
-use Rattle.changes.specs.declared.Work as C
 use Rattle.changes.specs.declared.table.Standing.{Standing}
 use Rattle.changes.specs.declared.table.Kind.{Kind}
 use Rattle.changes.specs.declared.table.Effect.{Effect}
 use Rattle.changes.specs.declared.table.Effect.TheVariants.{Stays, Adds, Removes}
 use Rattle.changes.specs.Pending.{tracked_in}
 use Rattle.changes.specs.Table.{standing_named, kind_named, effect_named, row_of, move_of, kind_in}
-use Rattle.changes.specs.Change.{stands_in, place_in, any_changed_in, one_more, idle_after, push_in, work_in, full_in, skipped_in, by_effect, moved_in, change_in, changes_in}
+use Rattle.changes.specs.Change.{Carried, stands_in, place_in, any_changed_in, one_more, idle_after, push_in, work_in, full_in, skipped_in, by_effect, moved_in, change_in, changes_in}
 use Rattle.changes.proofs.Standings.{kind_agrees, standing_agrees, table_agrees}
 use Rattle.changes.proofs.RulesParts.{place_in_lem, place-told, push_in_lem}
 
 -- the rules' work as a struct, over the tracked list ps, when i entries did nothing
-abbrev pub work_of : List Peer → ℕ → Work → C.Work
+abbrev pub work_of : List Peer → ℕ → Work → Carried
 work_of ps i v = work_in (configuration_of v.conf) (change_log_of v.log) (length (pending v.log (ids ps))) i
 
 -- what the rules answer to a change of v, as a struct; i entries did nothing before it, and then j
-abbrev pub done_of : List Peer → Work → ℕ → ℕ → Done → C.Work
+abbrev pub done_of : List Peer → Work → ℕ → ℕ → Done → Carried
 done_of ps v i j (done u) = work_of ps j u
 done_of ps v i j (full y) = full_in y (work_of ps i v)
 
@@ -195,7 +194,7 @@ module _ {r : Progress} {ps : List Peer} {up : ascending (ids ps) ≡ true} {v :
 -- ** A list of changes
 
 -- the list was carried out, and j entries did nothing; or it stopped at y
-abbrev pub Told : List Peer → Done → ℕ → C.Work → Type 0
+abbrev pub Told : List Peer → Done → ℕ → Carried → Type 0
 Told ps (done u) j w = w ≡ work_of ps j u
 Told ps (full y) j w = (w.full ≡ true) × (w.id ≡ y)
 

@@ -12,9 +12,7 @@ use Rattle.rules.specs.Table as rules
 use Rattle.rules.specs.Table.{place, put}
 use Rattle.rules.proofs.Formed.{Set, Sets}
 use Rattle.rules.proofs.Idle.{any_told, told}
-use Rattle.idset.specs.Set.{held, set_of}
-use Rattle.idset.specs.declared.Inserted.{Inserted}
-use Rattle.idset.specs.declared.Removed.{Removed}
+use Rattle.idset.specs.Set.{held, set_of, Inserted, Removed}
 use Rattle.idset.proofs.Bridge.{held-set, set-formed, insert_fits, remove_formed}
 use Rattle.tracker.specs.Bridge.{configuration_of, blank, map_change_of, map_changes_of, change_log_of}
 use Rattle.tracker.specs.declared.MapChange.{MapChange}

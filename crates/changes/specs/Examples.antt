@@ -12,7 +12,6 @@ use Rattle.idset.specs.Set.{set_of, insert_of, remove_of}
 use Rattle.tracker.specs.Bridge.{configuration_of, entries_of, map_changes_of, change_log_of}
 use Rattle.tracker.specs.declared.ChangeLog.{ChangeLog}
 use Rattle.tracker.specs.declared.MapChangeType.TheVariants.{Remove}
-use Rattle.changes.specs.declared.Work.{Work}
 use Rattle.changes.specs.declared.pending.Pending.{Pending}
 use Rattle.changes.specs.declared.table.Standing.{Standing}
 use Rattle.changes.specs.declared.table.Standing.TheVariants.{None, Idle, L, O, IO, OS}
@@ -22,17 +21,17 @@ use Rattle.changes.specs.declared.table.Effect.TheVariants.{Stays, Removes}
 use Rattle.changes.specs.declared.table.Move.{Move}
 use Rattle.changes.specs.Pending.{tracked_in}
 use Rattle.changes.specs.Table.{move_of, kind_in, row_of, incoming_at, learner_at, staged_at}
-use Rattle.changes.specs.Change.{push_in, work_in, full_in, change_in, changes_in}
+use Rattle.changes.specs.Change.{Carried, push_in, work_in, full_in, change_in, changes_in}
 
 -- incoming and learners as given, this log, n tracked; m entries did nothing
-abbrev work : List ℕ → List ℕ → List Entry → ℕ → ℕ → Work
+abbrev work : List ℕ → List ℕ → List Entry → ℕ → ℕ → Carried
 work i l es n m = work_in (configuration_of (conf i [] l [])) (change_log_of es) n m
 
 -- voters (1), with 1 tracked or with no room
-abbrev w1 : Work
+abbrev w1 : Carried
 w1 = work (1 ∷ []) [] [] 1 0
 
-abbrev w64 : Work
+abbrev w64 : Carried
 w64 = work (1 ∷ []) [] [] 64 0
 
 pub listed :
@@ -52,7 +51,7 @@ unfolding changes_in change_in push_in move_of insert_of remove_of insert_at rem
 listed = (refl, refl, refl, refl, refl, refl)
 
 -- voters (1 2) of outgoing, 2 staged
-abbrev staged : Work
+abbrev staged : Carried
 staged = work_in (configuration_of (conf (1 ∷ []) (1 ∷ 2 ∷ []) [] (2 ∷ []))) (change_log_of []) 2 0
 
 pub counted :
@@ -118,7 +117,7 @@ pub moves :
     × (move_of OS RemoveNode ≡ to O Stays)
     -- `next_move` that logs no Remove for an idle box
     × (move_of Idle RemoveNode ≡ to None Removes)
-    -- `kind_of` with 1 and 2 exchanged; with 0 as a Remove
+    -- `Kind::from` with 1 and 2 exchanged; with 0 as a Remove
     × (kind_in 1 ≡ RemoveNode)
     × (kind_in 2 ≡ AddLearnerNode)
     × (kind_in 0 ≡ AddNode)
@@ -127,13 +126,13 @@ moves = (refl, refl, refl, refl, refl, refl)
 
 -- An id that is tracked, incoming, outgoing, a learner, staged.
 pub standings :
-    -- `standing_of` that asks the sets before it asks whether the id is tracked
+    -- `Standing::of` that asks the sets before it asks whether the id is tracked
     (row_of false true false false false ≡ None)
-    -- `standing_of` that asks learners before outgoing
+    -- `Standing::of` that asks learners before outgoing
     × (row_of true false true true false ≡ O)
-    -- `standing_of` that asks staged before incoming
+    -- `Standing::of` that asks staged before incoming
     × (row_of true true true false true ≡ IO)
-    -- `standing_of` that takes an idle box for untracked
+    -- `Standing::of` that takes an idle box for untracked
     × (row_of true false false false false ≡ Idle)
     -- `is_incoming` of I only; of any voter
     × (incoming_at IO ≡ true)

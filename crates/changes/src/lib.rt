@@ -3,65 +3,66 @@
 #![tactic(auto)]
 
 ghost use Rattle.std.specs.Prelude.{◌≡◌};
-ghost use Rattle.changes.specs.Change.{stands_in, put_in, changed_in, place_in, any_changed_in, one_more, push_in, moved_in, change_in, changes_in};
+ghost use Rattle.changes.specs.Change.{stands_in, put_in, changed_in, place_in, any_changed_in, one_more, push_in, moved_in, change_in, changes_in, started, left_of, answer_of};
 
 use idset::IdSet;
+use tracker::refusal::Refusal;
 use tracker::{ChangeLog, Configuration, MapChange, MapChangeType, Tracker};
 
 pub mod pending; // IncrChangeMap
 pub mod table; // the table of standings
 
+use table::{Effect, Kind, Move, Standing};
+
 // The most entries that a change list has.
 pub const MAX_CHANGES: usize = 256;
 
-// The configuration and the log as far as a list is carried out, how many ids are then tracked, how many entries did nothing, and the id for which
-// there was no room.
+// The configuration and the log as far as a list is carried out, how many ids are then tracked, and how many entries did nothing.
 #[derive(Clone, Copy)]
 pub struct Work {
     pub conf: Configuration,
     pub log: ChangeLog,
     pub tracked: usize,
     pub idle: usize,
-    pub full: bool,
-    pub id: u64,
 }
 
 // Applies a change list to the configuration; it stops at the first id for which there is no room. By convention, changes to voters are
 // always made to incoming. Outgoing is either empty or preserves the outgoing configuration while in a joint state.
-pub fn apply<'a>(w: Work, base: &'a [u64], ids: &'a [u64], kinds: &'a [u8]) -> Work
-    ensures { result ≡ changes_in base.now ids.now kinds.now w }
+pub fn apply<'a>(
+    work: &mut Work,
+    base: &'a [u64],
+    ids: &'a [u64],
+    kinds: &'a [u8],
+) -> Result<(), Refusal>
+    ensures after { work.new ≡ left_of (changes_in base.now ids.now kinds.now (started work.old)) }
+    ensures answer { result ≡ answer_of (changes_in base.now ids.now kinds.now (started work.old)) }
 {
-    let mut work = w;
     for (id, kind) in ids.iter().zip(kinds) {
-        work = change(work, base, *id, table::kind_of(*kind));
-        if work.full {
-            return work;
-        }
+        change(work, base, *id, Kind::from(*kind))?;
     }
-    work
+    Ok(())
 }
 
 // One change, by the table. One with id 0 is skipped: it did nothing.
 #[tactic(auto, unfolding(crate::specs::Change::change_in))]
-pub fn change(w: Work, base: &[u64], id: u64, kind: table::Kind) -> Work
-    ensures { result ≡ change_in base.now id kind w }
+pub fn change(work: &mut Work, base: &[u64], id: u64, kind: Kind) -> Result<(), Refusal>
+    ensures after { work.new ≡ left_of (change_in base.now id kind (started work.old)) }
+    ensures answer { result ≡ answer_of (change_in base.now id kind (started work.old)) }
 {
     if id == 0 {
-        return Work {
-            idle: one_more(w.idle),
-            ..w
-        };
+        work.idle = one_more(work.idle);
+        return Ok(());
     }
-    let tracked = pending::is_tracked(base, w.log.count, w.log, id);
-    let from = standing(w.conf, tracked, id);
-    moved(w, id, table::next_move(from, kind))
+    let tracked = pending::is_tracked(base, work.log.count, &work.log, id);
+    let from = standing(&work.conf, tracked, id);
+    moved(work, id, from.next_move(kind))
 }
 
 // Where `id` stands, `tracked` telling whether it is tracked.
-fn standing(conf: Configuration, tracked: bool, id: u64) -> table::Standing
-    ensures { result ≡ stands_in conf tracked id }
+fn standing(conf: &Configuration, tracked: bool, id: u64) -> Standing
+    ensures { result ≡ stands_in conf.now tracked id }
 {
-    table::standing_of(
+    Standing::of(
         tracked,
         conf.incoming.contains(id),
         conf.outgoing.contains(id),
@@ -72,38 +73,30 @@ fn standing(conf: Configuration, tracked: bool, id: u64) -> table::Standing
 
 // `id` comes to its new standing, and is logged as the table says; no room where 64 are tracked. A change that alters no set and logs nothing is
 // counted.
-fn moved(w: Work, id: u64, to: table::Move) -> Work
-    ensures { result ≡ moved_in id to w }
+fn moved(work: &mut Work, id: u64, to: Move) -> Result<(), Refusal>
+    ensures after { work.new ≡ left_of (moved_in id to (started work.old)) }
+    ensures answer { result ≡ answer_of (moved_in id to (started work.old)) }
 {
-    let mut new = Work {
-        full: false,
-        id: 0,
-        ..w
-    };
-    let changed = place(&mut new.conf, id, to.next);
+    if matches!(to.effect, Effect::Adds) && Tracker::CAPACITY <= work.tracked {
+        return Err(Refusal::NoRoom(id));
+    }
+    let changed = place(&mut work.conf, id, to.next);
     match to.effect {
-        table::Effect::Stays => {
+        Effect::Stays => {
             if !changed {
-                new.idle = one_more(w.idle);
+                work.idle = one_more(work.idle);
             }
         }
-        table::Effect::Adds => {
-            if Tracker::CAPACITY <= w.tracked {
-                return Work {
-                    full: true,
-                    id,
-                    ..w
-                };
-            }
-            new.log = push(w.log, id, MapChangeType::Add);
-            new.tracked = w.tracked + 1;
+        Effect::Adds => {
+            push(&mut work.log, id, MapChangeType::Add);
+            work.tracked += 1;
         }
-        table::Effect::Removes => {
-            new.log = push(w.log, id, MapChangeType::Remove);
-            new.tracked = w.tracked.saturating_sub(1);
+        Effect::Removes => {
+            push(&mut work.log, id, MapChangeType::Remove);
+            work.tracked = work.tracked.saturating_sub(1);
         }
     }
-    new
+    Ok(())
 }
 
 // One more, as far as a list can be long.
@@ -114,13 +107,13 @@ fn one_more(n: usize) -> usize
 }
 
 // `id` comes to the standing `to` in each set; no change touches outgoing. Whether one of the sets changed.
-fn place(conf: &mut Configuration, id: u64, to: table::Standing) -> bool
+fn place(conf: &mut Configuration, id: u64, to: Standing) -> bool
     ensures after { conf.new ≡ place_in id to conf.old }
     ensures changed { result ≡ any_changed_in id to conf.old }
 {
-    let incoming = put(&mut conf.incoming, id, table::is_incoming(to));
-    let learners = put(&mut conf.learners, id, table::is_learner(to));
-    let staged = put(&mut conf.learners_next, id, table::is_staged(to));
+    let incoming = put(&mut conf.incoming, id, to.is_incoming());
+    let learners = put(&mut conf.learners, id, to.is_learner());
+    let staged = put(&mut conf.learners_next, id, to.is_staged());
     incoming || learners || staged
 }
 
@@ -130,25 +123,19 @@ fn put(set: &mut IdSet, id: u64, with: bool) -> bool
     ensures changed { result ≡ changed_in with id set.old }
 {
     if with {
-        let grown = set.insert(id);
-        *set = grown.set;
-        grown.changed
+        set.insert(id).unwrap_or(false)
     } else {
-        let shrunk = set.remove(id);
-        *set = shrunk.set;
-        shrunk.changed
+        set.remove(id)
     }
 }
 
 // The log with one entry more; a full log stays as it is.
 #[tactic(auto, unfolding(crate::specs::Change::push_in))]
-pub fn push(log: ChangeLog, id: u64, kind: MapChangeType) -> ChangeLog
-    ensures { result ≡ push_in id kind log }
+pub fn push(log: &mut ChangeLog, id: u64, kind: MapChangeType)
+    ensures { log.new ≡ push_in id kind log.old }
 {
-    let mut longer = log;
     if log.count < ChangeLog::CAPACITY {
-        longer.entries[log.count] = MapChange { id, kind };
-        longer.count = log.count + 1;
+        log.entries[log.count] = MapChange { id, kind };
+        log.count += 1;
     }
-    longer
 }

@@ -19,29 +19,29 @@ pub fn view<'a>(base: &'a [u64], count: usize) -> Pending<'a>
 }
 
 // Whether `id` is tracked: the last of the log's entries for it decides, and the base where there is none.
-pub fn contains<'a>(p: Pending<'a>, log: ChangeLog, id: u64) -> bool
-    ensures { result ≡ tracked_in p.entry.base.now p.entry.count log id }
+pub fn contains<'a>(p: Pending<'a>, log: &ChangeLog, id: u64) -> bool
+    ensures { result ≡ tracked_in p.entry.base.now p.entry.count log.now id }
 {
     tracked_in(p.base, p.count, log, id)
 }
 
 // The same, asked of the slice and the count.
-pub fn is_tracked(base: &[u64], count: usize, log: ChangeLog, id: u64) -> bool
-    ensures { result ≡ tracked_in base.now count log id }
+pub fn is_tracked(base: &[u64], count: usize, log: &ChangeLog, id: u64) -> bool
+    ensures { result ≡ tracked_in base.now count log.now id }
 {
     contains(view(base, count), log, id)
 }
 
 // What the view's question comes to.
-pub fn tracked_in(base: &[u64], count: usize, log: ChangeLog, id: u64) -> bool
-    ensures { result ≡ tracked_in base.now count log id }
+pub fn tracked_in(base: &[u64], count: usize, log: &ChangeLog, id: u64) -> bool
+    ensures { result ≡ tracked_in base.now count log.now id }
 {
     says(log, count, id, base.contains(&id))
 }
 
 // What the first `count` entries of the log say of `id`: the last one for it decides; `known` where there is none.
-fn says(log: ChangeLog, count: usize, id: u64, known: bool) -> bool
-    ensures { result ≡ fold (λ answer e. entry_says id (entry_of e) answer) known (take count log.entries) }
+fn says(log: &ChangeLog, count: usize, id: u64, known: bool) -> bool
+    ensures { result ≡ fold (λ answer e. entry_says id (entry_of e) answer) known (take count log.now.entries) }
 {
     log.entries
         .iter()

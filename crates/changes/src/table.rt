@@ -93,61 +93,59 @@ const MOVES: [[Move; 3]; 7] = [
     [IO, OS, O], // OS
 ];
 
-// What a change of this kind does to an id that stands there.
-#[tactic(auto, unfolding(crate::specs::Table::move_of))]
-pub fn next_move(from: Standing, kind: Kind) -> Move
-    ensures { result ≡ move_of from kind }
-{
-    MOVES[from as usize][kind as usize]
+impl Standing {
+    // The standing of an id that is, or is not, tracked and in each set. An id that is incoming, outgoing and staged moves as one of both voters.
+    pub fn of(tracked: bool, incoming: bool, outgoing: bool, learner: bool, staged: bool) -> Self
+        ensures { result ≡ row_of tracked incoming outgoing learner staged }
+    {
+        match (tracked, incoming, outgoing, learner, staged) {
+            (false, _, _, _, _) => Standing::None,
+            (true, true, true, _, _) => Standing::IO,
+            (true, false, true, _, true) => Standing::OS,
+            (true, false, true, _, false) => Standing::O,
+            (true, true, false, _, _) => Standing::I,
+            (true, false, false, true, _) => Standing::L,
+            (true, false, false, false, _) => Standing::Idle,
+        }
+    }
+
+    // What a change of this kind does to an id that stands there.
+    #[tactic(auto, unfolding(crate::specs::Table::move_of))]
+    pub fn next_move(self, kind: Kind) -> Move
+        ensures { result ≡ move_of self kind }
+    {
+        MOVES[self as usize][kind as usize]
+    }
+
+    // In which sets an id stands.
+    pub fn is_incoming(self) -> bool
+        ensures { result ≡ incoming_at self }
+    {
+        matches!(self, Standing::I | Standing::IO)
+    }
+
+    pub fn is_learner(self) -> bool
+        ensures { result ≡ learner_at self }
+    {
+        matches!(self, Standing::L)
+    }
+
+    pub fn is_staged(self) -> bool
+        ensures { result ≡ staged_at self }
+    {
+        matches!(self, Standing::OS)
+    }
 }
 
 // 0 AddNode, 1 RemoveNode, 2 AddLearnerNode.
-pub fn kind_of(kind: u8) -> Kind
-    ensures { result ≡ kind_in kind }
-{
-    match kind {
-        0 => Kind::AddNode,
-        1 => Kind::RemoveNode,
-        _ => Kind::AddLearnerNode,
+impl From<u8> for Kind {
+    ghost from_gives = { λ a b. b ≡ kind_in a };
+
+    fn from(kind: u8) -> Self {
+        match kind {
+            0 => Kind::AddNode,
+            1 => Kind::RemoveNode,
+            _ => Kind::AddLearnerNode,
+        }
     }
-}
-
-// The standing of an id that is, or is not, tracked and in each set. An id that is incoming, outgoing and staged moves as one of both voters.
-pub fn standing_of(
-    tracked: bool,
-    incoming: bool,
-    outgoing: bool,
-    learner: bool,
-    staged: bool,
-) -> Standing
-    ensures { result ≡ row_of tracked incoming outgoing learner staged }
-{
-    match (tracked, incoming, outgoing, learner, staged) {
-        (false, _, _, _, _) => Standing::None,
-        (true, true, true, _, _) => Standing::IO,
-        (true, false, true, _, true) => Standing::OS,
-        (true, false, true, _, false) => Standing::O,
-        (true, true, false, _, _) => Standing::I,
-        (true, false, false, true, _) => Standing::L,
-        (true, false, false, false, _) => Standing::Idle,
-    }
-}
-
-// In which sets an id stands.
-pub fn is_incoming(s: Standing) -> bool
-    ensures { result ≡ incoming_at s }
-{
-    matches!(s, Standing::I | Standing::IO)
-}
-
-pub fn is_learner(s: Standing) -> bool
-    ensures { result ≡ learner_at s }
-{
-    matches!(s, Standing::L)
-}
-
-pub fn is_staged(s: Standing) -> bool
-    ensures { result ≡ staged_at s }
-{
-    matches!(s, Standing::OS)
 }

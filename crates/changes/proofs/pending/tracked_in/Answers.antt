@@ -5,4 +5,4 @@ use Rattle.changes.proofs.pending.tracked_in.Goals as goal
 
 pub returns : goal.returns
 returns c = let a = c.args in
-    rw (← says_fold a.id (take a.count a.log.entries), ← memb_any a.id a.base.now, ← c.contains.ensures.value) c.says.ensures
+    rw (← says_fold a.id (take a.count a.log.now.entries), ← memb_any a.id a.base.now, ← c.contains.ensures.value) c.says.ensures
