@@ -21,9 +21,8 @@ use Rattle.tracker.specs.Bridge.{configuration_of, change_log_of}
 use Rattle.tracker.specs.declared.Configuration.{Configuration}
 use Rattle.changes.specs.Change.{changes_in}
 use Rattle.changes.proofs.Rules.{Told, changes_in_lem, fine_sets, start_in, work_of}
-use Rattle.changer.specs.Calls.{answer_of}
+use Rattle.changer.specs.Calls.{Answer, answer_of}
 use Rattle.changer.specs.Stages.{accepted_in, after_list, carried_in, refused_in, then_on}
-use Rattle.changer.specs.declared.Answer.{Answer}
 
 -- what the rules' list came to, as a struct, where i entries did nothing
 abbrev list_came : Configuration → ℕ → Done → Answer

@@ -14,9 +14,8 @@ use Rattle.rules.proofs.Check.{Passes, passes_of}
 use Rattle.rules.proofs.Formed.{Set, Sets, Whole, of-sets}
 use Rattle.rules.proofs.Sets.{ascending-all, length_part, memb-all}
 use Rattle.rules.proofs.Steps.{length-minus, length-removals}
-use Rattle.idset.specs.Set.{held, set_of}
+use Rattle.idset.specs.Set.{held, set_of, United}
 use Rattle.idset.specs.declared.IdSet.{IdSet}
-use Rattle.idset.specs.declared.United.{United}
 use Rattle.idset.proofs.Bridge.{held-set, union_formed}
 use Rattle.tracker.specs.Bridge.{configuration_of, change_log_of}
 use Rattle.tracker.specs.declared.Configuration.{Configuration}

@@ -1,7 +1,8 @@
+pub mod Answered
 pub mod Verdicts
 pub mod Pending
 pub mod Carried
-pub mod Changed
+pub mod Outcomes
 pub mod Gone
 pub mod Left
 pub mod Same
@@ -13,3 +14,4 @@ pub mod Tests
 pub mod Tracked
 pub mod Removed
 pub mod Called
+pub mod Worked

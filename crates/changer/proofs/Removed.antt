@@ -6,8 +6,9 @@ use mathlib.Core.Bool.{Bool, true, false, ◌||◌, cond}
 use mathlib.Core.List.{List, [], ◌∷◌, ◌++◌, append_assoc, append-nil}
 use mathlib.Core.Logic.{◌⊎◌, inl, inr}
 use native.Mathlib.Omega.{arith}
-use lib.ListN.{length, drop, length-append, length-take}
-use lib.Seq.{drop-drop}
+use native.Mathlib.Numerals.{add-one}
+use lib.ListN.{length, drop, get_or, length-append, length-take}
+use lib.Seq.{drop-cons, drop-drop}
 use Rattle.rules.specs.Calls.{removals}
 use Rattle.rules.specs.State.{Entry, remove}
 use Rattle.idset.specs.Places.{first_is, rank}
@@ -51,6 +52,10 @@ gone_cons : (x : ℕ) (xs is ls : List ℕ)
     ≡ cond (first_is x (past x is) || first_is x (past x ls)) (gone_walk xs (past x is) (past x ls)) (x ∷ gone_walk xs (past x is) (past x ls))
 unfolding gone_walk
 gone_cons x xs is ls = refl
+
+-- what is left before a turn
+pub next_left : (xs : List ℕ) (i : ℕ) → i < length xs → drop i xs ≡ get_or xs i 0 ∷ drop (i + 1) xs
+next_left xs i h = rw add-one (drop-cons xs i 0 h)
 
 -- those of o in neither is nor ls are logged: `left` are left of o, it has passed j and k of the others, and has got to log
 pub record Leaving (o is ls : IdSet) (left : List ℕ) (log : ChangeLog) (j k : ℕ) : Type 0 where

@@ -27,7 +27,7 @@ use Rattle.changer.specs.Calls.{enter_answer, if_formed, leave_answer, simple_an
 use Rattle.changer.specs.Before.{own_check}
 use Rattle.changer.specs.Stages.{enter_in, leave_in, simple_in}
 use Rattle.changer.proofs.Verdicts.{count_same, read-few, readable-numbered, tested_same, tests_first, then_given}
-use Rattle.changer.proofs.Changed.{enter_on, simple_on_lem}
+use Rattle.changer.proofs.Outcomes.{enter_on, simple_on_lem}
 use Rattle.changer.proofs.Left.{leave_on}
 
 module _ (t : Tracker) where

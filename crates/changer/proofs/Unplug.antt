@@ -13,11 +13,10 @@ use Rattle.rules.specs.Idle.{simple_idles}
 use Rattle.rules.specs.Unplug.{straight, unplug, verdict_in, voter_left}
 use Rattle.rules.proofs.Theorems.{unplug-is-told}
 use Rattle.tracker.specs.Bridge.{state_of}
-use Rattle.tracker.specs.Apply.{verdict_of}
+use Rattle.tracker.specs.Apply.{Verdict, verdict_of}
 use Rattle.tracker.specs.Form.{tracker_well_formed}
 use Rattle.tracker.specs.declared.Configuration.{Configuration}
 use Rattle.tracker.specs.declared.Tracker.{Tracker}
-use Rattle.tracker.specs.declared.Verdict.{Verdict}
 use Rattle.tracker.proofs.Bridge.{tracker_formed}
 use Rattle.changer.specs.Before.{may_unplug, own_check}
 use Rattle.changer.specs.Calls.{answer_of, simple_answer, unplug_of}

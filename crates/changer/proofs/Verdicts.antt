@@ -21,10 +21,9 @@ use Rattle.tracker.specs.declared.Configuration.{Configuration}
 use Rattle.tracker.specs.declared.Tracker.{Tracker}
 use Rattle.tracker.proofs.Bridge.{tracker_formed}
 use Rattle.invariants.proofs.Faults.{Numbered, numbered-refuse, numbered_then}
-use Rattle.changer.specs.Calls.{answer_of, if_formed}
+use Rattle.changer.specs.Calls.{Answer, answer_of, if_formed}
 use Rattle.changer.specs.Before.{formed_then}
 use Rattle.changer.specs.Stages.{given}
-use Rattle.changer.specs.declared.Answer.{Answer}
 
 -- ** One test after the other
 

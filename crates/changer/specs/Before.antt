@@ -10,9 +10,8 @@ use Rattle.rules.specs.Unplug.{voter_left}
 use Rattle.idset.specs.Set.{held}
 use Rattle.tracker.specs.Bridge.{conf_of}
 use Rattle.tracker.specs.Form.{tracker_well_formed}
-use Rattle.tracker.specs.Apply.{verdict_of}
+use Rattle.tracker.specs.Apply.{Verdict, verdict_of}
 use Rattle.tracker.specs.declared.Tracker.{Tracker}
-use Rattle.tracker.specs.declared.Verdict.{Verdict}
 use Rattle.invariants.specs.Check.{check_walk}
 
 -- 1, then what else is tested
@@ -22,10 +21,6 @@ formed_then t v = cond (tracker_well_formed t) (verdict_of v) (verdict_of (fault
 -- the check of a state's own configuration and ids
 abbrev pub own_check : Tracker → rules.Verdict
 own_check t = check_walk (held t.ids) (conf_of t.conf)
-
--- 2, 3
-abbrev pub readable_in : List ℕ → List ℕ → Verdict
-readable_in ids kinds = verdict_of (readable ids kinds)
 
 -- a kind above 2
 abbrev pub any_above2 : List ℕ → Bool

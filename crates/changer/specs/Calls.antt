@@ -1,16 +1,33 @@
 -- What the three calls answer, for every state and every list, and whether a box can be unplugged: the rules through the bridge, and 1 where the state
 -- is malformed. Assumes nothing.
-use Rattle.std.specs.Prelude.{ℕ, Bool, cond, List, [], ◌∷◌}
+use Rattle.std.specs.Prelude.{ℕ, Bool, Result, Ok, Err, cond, List, [], ◌∷◌}
 use Rattle.rules.specs.Answers as rules
 use Rattle.rules.specs.Answers.{accepted, refused}
 use Rattle.rules.specs.Calls.{simple, enter_joint, leave_joint}
 use Rattle.rules.specs.Idle.{simple_idles, enter_idles}
 use Rattle.tracker.specs.Bridge.{configuration_of, change_log_of, state_of}
 use Rattle.tracker.specs.Form.{tracker_well_formed}
+use Rattle.tracker.specs.Apply.{Verdict}
+use Rattle.tracker.specs.Refusals.{number_at, id_at}
+use Rattle.tracker.specs.declared.ChangeLog.{ChangeLog}
 use Rattle.tracker.specs.declared.Configuration.{Configuration}
 use Rattle.tracker.specs.declared.Tracker.{Tracker}
-use Rattle.tracker.specs.declared.Verdict.{Verdict}
-use Rattle.changer.specs.declared.Answer.{Answer}
+use Rattle.tracker.specs.declared.refusal.Refusal.{Refusal}
+use Rattle.changer.specs.declared.Changed.{Changed}
+
+-- number and id, the configuration, the log and how many entries of the list did nothing
+pub record Answer : Type 0 where
+  pub number : ℕ
+  pub id : ℕ
+  pub conf : Configuration
+  pub log : ChangeLog
+  pub idle : ℕ
+
+-- what a call of this configuration answers. "A refusal gives the number and the id named here, else id 0, the state given and an empty log"; "a
+-- refused call gives 0".
+abbrev pub answered : Configuration → Result Changed Refusal → Answer
+answered given (Ok a) = record { number = 0; id = 0; conf = a.conf; log = a.log; idle = a.idle }
+answered given (Err r) = record { number = number_at r; id = id_at r; conf = given; log = change_log_of []; idle = 0 }
 
 -- "A refusal gives the number and the id named here, else id 0, the state given and an empty log"; "a refused call gives 0". The number i is of
 -- the entries that did nothing.

@@ -16,8 +16,7 @@ use Rattle.idset.specs.Places.{zeros}
 use Rattle.idset.specs.Set.{set_of, well_formed}
 use Rattle.tracker.specs.Bridge.{configuration_of, peers_of, records_of, record_places, tracker_of, map_changes_of, change_log_of}
 use Rattle.tracker.specs.Form.{conf_well_formed, all_unused, tracker_well_formed}
-use Rattle.changer.specs.declared.Answer.{Answer}
-use Rattle.changer.specs.Calls.{simple_answer, enter_answer, leave_answer}
+use Rattle.changer.specs.Calls.{Answer, simple_answer, enter_answer, leave_answer}
 
 -- i entries did nothing
 abbrev accepts : Conf → List Entry → ℕ → Answer

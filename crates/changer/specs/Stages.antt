@@ -7,17 +7,15 @@ use Rattle.idset.specs.Places.{first_is, two_apart}
 use Rattle.idset.specs.Set.{held, set_of, insert_of, remove_of, union_of}
 use Rattle.idset.specs.declared.IdSet.{IdSet}
 use Rattle.tracker.specs.Bridge.{conf_of, log_of, change_log_of}
-use Rattle.tracker.specs.Apply.{verdict_of}
+use Rattle.tracker.specs.Apply.{Verdict, verdict_of}
 use Rattle.tracker.specs.declared.Configuration.{Configuration}
 use Rattle.tracker.specs.declared.ChangeLog.{ChangeLog}
 use Rattle.tracker.specs.declared.Tracker.{Tracker}
-use Rattle.tracker.specs.declared.Verdict.{Verdict}
 use Rattle.invariants.specs.Walk.{past}
 use Rattle.invariants.specs.Check.{check_walk}
-use Rattle.changes.specs.Change.{work_in, changes_in}
-use Rattle.changes.specs.declared.Work.{Work}
+use Rattle.changes.specs.Change.{Carried, work_in, changes_in}
 use Rattle.changer.specs.Before.{may_enter, may_leave, may_simple}
-use Rattle.changer.specs.declared.Answer.{Answer}
+use Rattle.changer.specs.Calls.{Answer}
 
 abbrev pub accepted_in : Configuration → ChangeLog → ℕ → Answer
 accepted_in c log i = record { number = 0; id = 0; conf = c; log = log; idle = i }
@@ -55,7 +53,7 @@ abbrev pub with_auto_in : Bool → Answer → Answer
 with_auto_in auto a = record { number = a.number; id = a.id; conf = with_auto auto a.conf; log = a.log; idle = a.idle }
 
 -- 16, 17, or what the list came to
-abbrev pub after_list : Configuration → Work → Answer
+abbrev pub after_list : Configuration → Carried → Answer
 after_list c w =
     cond w.full (refused_in c 16 w.id)
     (cond (is_empty (held w.conf.incoming)) (refused_in c 17 0)

@@ -26,9 +26,8 @@ use Rattle.idset.proofs.Bridge.{held-set, walk_decides}
 use Rattle.tracker.specs.Bridge.{configuration_of, change_log_of}
 use Rattle.tracker.specs.declared.Configuration.{Configuration}
 use Rattle.changes.proofs.Rules.{fine_sets}
-use Rattle.changer.specs.Calls.{answer_of}
+use Rattle.changer.specs.Calls.{Answer, answer_of}
 use Rattle.changer.specs.Stages.{accepted_in, again_in, carried_in, entering_in, refused_in, then_on, with_auto_in}
-use Rattle.changer.specs.declared.Answer.{Answer}
 use Rattle.changer.proofs.Pending.{again_same}
 use Rattle.changer.proofs.Carried.{list_same}
 
