@@ -22,10 +22,6 @@ formed_then t v = cond (tracker_well_formed t) (verdict_of v) (verdict_of (fault
 abbrev pub own_check : Tracker → rules.Verdict
 own_check t = check_walk (held t.ids) (conf_of t.conf)
 
--- 2, 3
-abbrev pub readable_in : List ℕ → List ℕ → Verdict
-readable_in ids kinds = verdict_of (readable ids kinds)
-
 -- a kind above 2
 abbrev pub any_above2 : List ℕ → Bool
 any_above2 ks = list_any (λ k. ltb 2 k) ks

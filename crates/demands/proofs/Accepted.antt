@@ -11,7 +11,7 @@ use Rattle.rules.specs.Restore.{apply_answer}
 use Rattle.tracker.specs.Apply.{outcome_of}
 use Rattle.tracker.specs.Bridge.{state_of}
 use Rattle.tracker.specs.Form.{tracker_well_formed}
-use Rattle.tracker.specs.declared.Outcome.{Outcome}
+use Rattle.tracker.specs.Apply.{Outcome}
 use Rattle.tracker.specs.declared.Tracker.{Tracker}
 use Rattle.tracker.proofs.Bridge.{tracker_formed}
 use Rattle.changer.specs.Calls.{answer_of, enter_answer, if_formed, leave_answer, simple_answer}

@@ -12,11 +12,11 @@ use Rattle.rules.specs.Idle.{enter_idles, simple_idles}
 use Rattle.tracker.specs.Apply.{apply_of}
 use Rattle.tracker.specs.Bridge.{change_log_of, state_of}
 use Rattle.tracker.specs.ConfStates.{written_of}
-use Rattle.tracker.specs.declared.Outcome.{Outcome}
+use Rattle.tracker.specs.Apply.{Outcome}
 use Rattle.tracker.specs.declared.Tracker.{Tracker}
 use Rattle.invariants.specs.Check.{check_of, in_order_of}
 use Rattle.changer.specs.Calls.{enter_answer, leave_answer, simple_answer}
-use Rattle.changer.specs.declared.Answer.{Answer}
+use Rattle.changer.specs.Calls.{Answer}
 use Rattle.restore.specs.Restore.{restore_of, step_by_step_of}
 use Rattle.listing.specs.Listing.{listing, replay_answer, replay_leaves}
 use Rattle.unplug.specs.Words.{flag}

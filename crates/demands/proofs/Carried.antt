@@ -16,7 +16,7 @@ use Rattle.tracker.specs.Apply.{outcome_of}
 use Rattle.tracker.specs.Bridge.{lists_of, state_of}
 use Rattle.tracker.specs.Form.{tracker_well_formed}
 use Rattle.tracker.specs.declared.ConfState.{ConfState}
-use Rattle.tracker.specs.declared.Outcome.{Outcome}
+use Rattle.tracker.specs.Apply.{Outcome}
 use Rattle.tracker.specs.declared.Tracker.{Tracker}
 use Rattle.tracker.proofs.Bridge.{state-back, tracker_formed, tracker_well}
 use Rattle.restore.specs.Restore.{restore_of, step_by_step_of, too_long}

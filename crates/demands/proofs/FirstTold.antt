@@ -27,7 +27,7 @@ use Rattle.tracker.specs.declared.ChangeLog.{ChangeLog}
 use Rattle.tracker.specs.declared.ConfState.{ConfState}
 use Rattle.tracker.specs.declared.Configuration.{Configuration}
 use Rattle.tracker.specs.declared.Tracker.{Tracker}
-use Rattle.tracker.specs.declared.Verdict as struct
+use Rattle.tracker.specs.Apply as struct
 use Rattle.tracker.proofs.Bridge.{conf-formed, log-formed, tracker_formed}
 use Rattle.invariants.specs.Check.{check_of}
 use Rattle.changer.specs.Calls.{answer_of, enter_answer, if_formed, leave_answer, simple_answer, unplug_of}
@@ -35,7 +35,7 @@ use Rattle.restore.specs.Restore.{restore_of, step_by_step_of, too_long}
 use Rattle.restore.proofs.Restored.{stepped_runs}
 use Rattle.unplug.specs.Unplugs.{state_holds_in, state_in, told_of}
 use Rattle.unplug.specs.Words.{flag}
-use Rattle.unplug.specs.declared.Told.{Told}
+use Rattle.unplug.specs.Unplugs.{Told}
 use Rattle.listing.specs.Sessions.{answer_in}
 use Rattle.listing.specs.declared.Session.{Session}
 use Rattle.calls.specs.Layout.{conf_at, conf_state_at, log_at, state_at, word}

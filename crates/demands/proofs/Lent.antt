@@ -4,6 +4,8 @@ use Prim.Native.Nat.{ℕ}
 use mathlib.Core.Path.{◌≡◌}
 use mathlib.Core.List.{List}
 use Rattle.text.specs.Put.{Put}
+use Rattle.text.specs.Writes.{Writes}
+use Rattle.text.specs.declared.Output.{Output}
 use Rattle.text.proofs.put_byte.Reads as text-put-byte
 use Rattle.text.proofs.put_bytes.Reads as text-put-bytes
 use Rattle.text.proofs.put_decimal.Reads as text-put-decimal
@@ -47,6 +49,15 @@ SettlesWith {K} {A} {Z} {E} P held = (κs : K) (a : A κs) (z y : Z κs) (e d : 
 -- the place after a text, and the slice
 pub put-settled : {old text : List ℕ} {at : ℕ} {m n : List ℕ} {p q : ℕ} → Put old at text m p → Put old at text n q → (p ≡ q) × (m ≡ n)
 put-settled {m = m} {n = n} {p = p} {q = q} a b = (equation p q a.end b.end, equation m n a.bytes b.bytes)
+
+-- P is a contract, `left` the output that it leaves: of the same arguments it allows one place after the text, and one slice
+abbrev pub SettlesOutput : {K : Type 0} {A Z E : K → Type 0} → ((κs : K) → A κs → Z κs → E κs → Type 0) → ((κs : K) → E κs → Output) → Type 0
+SettlesOutput {K} {A} {Z} {E} P left =
+    (κs : K) (a : A κs) (z y : Z κs) (e d : E κs) → P κs a z e → P κs a y d → ((left κs e).at ≡ (left κs d).at) × ((left κs e).bytes.now ≡ (left κs d).bytes.now)
+
+-- the place after a text that is put into an output, and its slice
+pub written_settled : {o p q : Output} {text : List ℕ} → Writes o text p → Writes o text q → (p.at ≡ q.at) × (p.bytes.now ≡ q.bytes.now)
+written_settled f g = put-settled f.put g.put
 
 -- ** text
 
@@ -113,7 +124,7 @@ pub record Entries : Type 0 where
   pub conf : Settles calls-conf.Learnt
   pub log : Settles calls-log.Learnt
   pub conf-state : Settles calls-conf-state.Learnt
-  pub put-reply : SettlesWith calls-put-reply.Learnt (λ κs e. e.0.now)
+  pub put-reply : SettlesOutput calls-put-reply.Learnt (λ κs e. e.0.now)
 
 pub entries : Entries
-entries = search (equation, put-settled, both)
+entries = search (equation, written_settled, both)

@@ -14,7 +14,7 @@ use Rattle.rules.proofs.RoundTrip.{fresh_in_order}
 use Rattle.rules.proofs.Theorems.{empty_comes_back, joint_can_be_left, leave-is-applied, order_comes_back}
 use Rattle.tracker.specs.Apply.{number_of, outcome_of}
 use Rattle.tracker.specs.Bridge.{conf_of, state_of, tracker_of}
-use Rattle.tracker.specs.declared.Outcome.{Outcome}
+use Rattle.tracker.specs.Apply.{Outcome}
 use Rattle.tracker.specs.declared.Tracker.{Tracker}
 use Rattle.tracker.proofs.Bridge.{state-back, tracker_well}
 use Rattle.invariants.specs.Check.{in_order_of}

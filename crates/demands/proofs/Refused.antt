@@ -21,11 +21,11 @@ use Rattle.tracker.specs.Form.{conf_well_formed, log_well_formed, tracker_well_f
 use Rattle.tracker.specs.declared.ChangeLog.{ChangeLog}
 use Rattle.tracker.specs.declared.ConfState.{ConfState}
 use Rattle.tracker.specs.declared.Configuration.{Configuration}
-use Rattle.tracker.specs.declared.Outcome.{Outcome}
+use Rattle.tracker.specs.Apply.{Outcome}
 use Rattle.tracker.specs.declared.Tracker.{Tracker}
 use Rattle.tracker.proofs.Bridge.{state-back, tracker_formed, unit_tracker}
 use Rattle.changer.specs.Calls.{answer_of, if_formed}
-use Rattle.changer.specs.declared.Answer.{Answer}
+use Rattle.changer.specs.Calls.{Answer}
 use Rattle.restore.specs.Restore.{applied_to, restore_of, step_by_step_of, too_long, whole_of}
 use Rattle.restore.proofs.Steps.{run-left}
 use Rattle.restore.proofs.Restored.{restore-whole, stepped_runs, steps-short}

@@ -20,8 +20,8 @@ use Rattle.tracker.specs.Apply.{number_of, outcome_of}
 use Rattle.tracker.specs.Bridge.{conf_of, conf_state_of, configuration_of, lists_of, peers_of, record_places, state_of, tracker_of}
 use Rattle.tracker.specs.ConfStates.{written_of}
 use Rattle.tracker.specs.Form.{tracker_well_formed}
-use Rattle.tracker.specs.declared.Outcome.{Outcome}
-use Rattle.tracker.specs.declared.Written.{Written}
+use Rattle.tracker.specs.Apply.{Outcome}
+use Rattle.tracker.specs.ConfStates.{Written}
 use Rattle.tracker.specs.declared.Tracker.{Tracker}
 use Rattle.idset.proofs.Bridge.{held-few}
 use Rattle.tracker.proofs.Bridge.{Sets, conf-sets, lists_back, roster_set, rostered, state-back, tracked-ids, tracker_formed, tracker_parts, tracker_well, unit_conf}

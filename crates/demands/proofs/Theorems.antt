@@ -18,7 +18,7 @@ use Rattle.tracker.specs.Bridge.{conf_of, state_of, tracker_of}
 use Rattle.tracker.specs.Form.{tracker_well_formed}
 use Rattle.tracker.specs.declared.ConfState.{ConfState}
 use Rattle.tracker.specs.declared.Tracker.{Tracker}
-use Rattle.tracker.specs.declared.Verdict.{Verdict}
+use Rattle.tracker.specs.Apply.{Verdict}
 use Rattle.invariants.specs.Check.{check_of, in_order_of}
 use Rattle.changer.specs.Calls.{enter_answer, leave_answer, simple_answer}
 use Rattle.changer.proofs.View.{enter_alike, leave_alike, simple_alike}

@@ -27,16 +27,17 @@ use Rattle.tracker.specs.Form.{conf_well_formed, log_well_formed, tracker_well_f
 use Rattle.tracker.specs.declared.ChangeLog.{ChangeLog}
 use Rattle.tracker.specs.declared.ConfState.{ConfState}
 use Rattle.tracker.specs.declared.Configuration.{Configuration}
-use Rattle.tracker.specs.declared.Outcome.{Outcome}
+use Rattle.tracker.specs.Apply.{Outcome}
 use Rattle.tracker.specs.declared.Tracker.{Tracker}
 use Rattle.invariants.specs.Check.{check_of, check_walk, learners_walk, rest_walk, staged_walk, voters_walk}
-use Rattle.invariants.specs.Walk.{First, fault_at, first, first_in, first_out, nobody, sooner}
+use Rattle.std.specs.Prelude.{Option, Some, None}
+use Rattle.invariants.specs.Walk.{fault_at, first_in, first_out, sooner}
 use Rattle.changer.specs.Calls.{answer_of, enter_answer, if_formed, leave_answer, simple_answer, unplug_of}
-use Rattle.changer.specs.declared.Answer.{Answer}
+use Rattle.changer.specs.Calls.{Answer}
 use Rattle.restore.specs.Restore.{applied_to, restore_of, restoring, step_by_step_of, too_long, whole_of}
 use Rattle.unplug.specs.Unplugs.{state_holds_in, state_in, told_of}
 use Rattle.unplug.specs.Words.{at, flag}
-use Rattle.unplug.specs.declared.Told.{Told}
+use Rattle.unplug.specs.Unplugs.{Told}
 use Rattle.listing.specs.Script as script
 use Rattle.listing.specs.Sessions.{answer_in}
 use Rattle.listing.specs.declared.Session.{Session}
@@ -60,10 +61,10 @@ either number false x y h k = k
 
 -- ** The check as walks, of any lists
 
-at_other : (f : First) (n : ℕ) → Not13 n → Numbered Other (fault_at f n)
+at_other : (f : Option ℕ) (n : ℕ) → Not13 n → Numbered Other (fault_at f n)
 unfolding Numbered
-at_other nobody n h = tt
-at_other (first x) n h = h
+at_other None n h = tt
+at_other (Some x) n h = h
 
 sooner_other : (u v : Verdict) → Numbered Other u → Numbered Other v → Numbered Other (sooner u v)
 unfolding Numbered
@@ -89,15 +90,15 @@ staged_other tracked outgoing staged =
     sooner_other (fault_at (first_out staged tracked) 11) (fault_at (first_out staged outgoing) 12) (at_other (first_out staged tracked) 11 refl) (at_other (first_out staged outgoing) 12 refl)
 
 -- where nothing is outgoing, a walk along the staged ids finds its first one
-module _ (x : ℕ) (f : First) where
+module _ (x : ℕ) (f : Option ℕ) where
   -- so that what comes after does not matter
   found_other : (after : Verdict) → Numbered Other (sooner (fault_at f 11) (fault 12 x) ▸ after)
   unfolding Numbered
   found_other after = go f
     where
-      go : (f : First) → Numbered Other (sooner (fault_at f 11) (fault 12 x) ▸ after)
-      go nobody = refl
-      go (first y) = less (ltb x y)
+      go : (f : Option ℕ) → Numbered Other (sooner (fault_at f 11) (fault 12 x) ▸ after)
+      go None = refl
+      go (Some y) = less (ltb x y)
         where
           less : (b : Bool) → Numbered Other (cond b (fault 12 x) (fault 11 y) ▸ after)
           less true = refl

@@ -15,7 +15,7 @@ use Rattle.tracker.specs.Apply.{number_of, refused_of}
 use Rattle.tracker.specs.Bridge.{lists_of, state_of}
 use Rattle.tracker.specs.Form.{tracker_well_formed}
 use Rattle.tracker.specs.declared.ConfState.{ConfState}
-use Rattle.tracker.specs.declared.Outcome.{Outcome}
+use Rattle.tracker.specs.Apply.{Outcome}
 use Rattle.tracker.specs.declared.Tracker.{Tracker}
 use Rattle.restore.specs.Restore.{restore_of, step_by_step_of, too_long, whole_of}
 use Rattle.restore.proofs.Marked.{Marked}

@@ -20,13 +20,13 @@ use Rattle.tracker.specs.Form.{tracker_well_formed}
 use Rattle.tracker.specs.declared.ChangeLog.{ChangeLog}
 use Rattle.tracker.specs.declared.ConfState.{ConfState}
 use Rattle.tracker.specs.declared.Tracker.{Tracker}
-use Rattle.tracker.specs.declared.Outcome.{Outcome}
+use Rattle.tracker.specs.Apply.{Outcome}
 use Rattle.invariants.specs.Check.{in_order_of}
 use Rattle.changes.specs.Pending.{tracked_in}
 use Rattle.changer.specs.Before.{may_enter, may_simple}
 use Rattle.changer.specs.Stages.{carried_in, entering_in, leaving_in, pending_in, with_auto_in}
 use Rattle.changer.specs.Calls.{enter_answer, leave_answer, simple_answer, unplug_of}
-use Rattle.changer.specs.declared.Answer.{Answer}
+use Rattle.changer.specs.Calls.{Answer}
 use Rattle.restore.specs.Restore.{applied_to, restore_of, step_by_step_of}
 use Rattle.demands.specs.Sequences.{Call, after_calls, deeds, deeds_of, box_in, restore_call, step_by_step_call}
 

@@ -6,7 +6,7 @@ use Rattle.rules.specs.Restore.{attempt}
 use Rattle.rules.specs.Sequences.{Deed}
 use Rattle.tracker.specs.Apply.{outcome_of}
 use Rattle.tracker.specs.Bridge.{conf_of, state_of}
-use Rattle.tracker.specs.declared.Outcome.{Outcome}
+use Rattle.tracker.specs.Apply.{Outcome}
 use Rattle.tracker.specs.declared.Tracker.{Tracker}
 use Rattle.invariants.specs.Check.{in_order_of}
 use Rattle.changer.specs.Calls.{enter_answer, leave_answer, simple_answer}

@@ -25,17 +25,17 @@ use Rattle.tracker.specs.Form.{all_unused, conf_well_formed, log_well_formed, tr
 use Rattle.tracker.specs.declared.ChangeLog.{ChangeLog}
 use Rattle.tracker.specs.declared.ConfState.{ConfState}
 use Rattle.tracker.specs.declared.Configuration.{Configuration}
-use Rattle.tracker.specs.declared.Outcome.{Outcome}
+use Rattle.tracker.specs.Apply.{Outcome}
 use Rattle.tracker.specs.declared.Tracker.{Tracker}
-use Rattle.tracker.specs.declared.Verdict as struct
-use Rattle.tracker.specs.declared.Written.{Written}
+use Rattle.tracker.specs.Apply as struct
+use Rattle.tracker.specs.ConfStates.{Written}
 use Rattle.invariants.specs.Check.{check_of, check_walk, learners_walk, rest_walk, voters_walk}
 use Rattle.changer.specs.Calls.{enter_answer, leave_answer, simple_answer, unplug_of}
-use Rattle.changer.specs.declared.Answer.{Answer}
+use Rattle.changer.specs.Calls.{Answer}
 use Rattle.restore.specs.Restore.{applied_to, restore_of, step_by_step_of, too_long, whole_of}
 use Rattle.unplug.specs.Unplugs.{state_in, told_of}
 use Rattle.unplug.specs.Words.{at, flag}
-use Rattle.unplug.specs.declared.Told.{Told}
+use Rattle.unplug.specs.Unplugs.{Told}
 use Rattle.listing.specs.Script as script
 use Rattle.listing.specs.Sessions.{answer_in}
 use Rattle.listing.specs.declared.Session.{Session}

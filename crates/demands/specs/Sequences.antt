@@ -9,7 +9,7 @@ use Rattle.tracker.specs.Bridge.{state_of, lists_of}
 use Rattle.tracker.specs.Form.{tracker_well_formed}
 use Rattle.tracker.specs.declared.Tracker.{Tracker}
 use Rattle.tracker.specs.declared.ConfState.{ConfState}
-use Rattle.tracker.specs.declared.Outcome.{Outcome}
+use Rattle.tracker.specs.Apply.{Outcome}
 use Rattle.changer.specs.Calls.{simple_answer, enter_answer, leave_answer}
 use Rattle.restore.specs.Restore.{applied_to, too_long, restore_of, step_by_step_of}
 

@@ -14,11 +14,11 @@ use Rattle.tracker.specs.Form.{tracker_well_formed}
 use Rattle.tracker.specs.declared.ChangeLog.{ChangeLog}
 use Rattle.tracker.specs.declared.ConfState.{ConfState}
 use Rattle.tracker.specs.declared.Configuration.{Configuration}
-use Rattle.tracker.specs.declared.Outcome.{Outcome}
+use Rattle.tracker.specs.Apply.{Outcome}
 use Rattle.tracker.specs.declared.Tracker.{Tracker}
-use Rattle.tracker.specs.declared.Verdict.{Verdict}
+use Rattle.tracker.specs.Apply.{Verdict}
 use Rattle.changer.specs.Calls.{enter_answer, leave_answer, simple_answer, unplug_of}
-use Rattle.changer.specs.declared.Answer.{Answer}
+use Rattle.changer.specs.Calls.{Answer}
 use Rattle.restore.specs.Restore.{applied_to, restore_of, step_by_step_of, steps_of, too_long, whole_of}
 use Rattle.listing.specs.Listing.{listing, replay_answer, replay_leaves}
 use Rattle.unplug.specs.Words.{at}

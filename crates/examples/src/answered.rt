@@ -1,33 +1,38 @@
 // What is answered, in the words of document 01's examples.
 use crate::state::{Conf, State};
-use changer::Answer;
+use changer::Changed;
 use std::fmt;
-use tracker::{ChangeLog, MapChange, MapChangeType, Outcome, Verdict, numbers};
+use tracker::refusal::Refusal;
+use tracker::{ChangeLog, MapChange, MapChangeType, Tracker};
 
 // What a call answers: the configuration and the log, or a refusal.
 #[derive(Clone, Copy)]
-pub(crate) struct Told(pub Answer);
+pub(crate) struct Told(pub Result<Changed, Refusal>);
 
 impl fmt::Display for Told {
     fn fmt<W: fmt::Write>(&self, f: &mut fmt::Formatter<W>) -> fmt::Result {
-        let Told(a) = *self;
-        if a.number != numbers::ACCEPTED {
-            let refusal = Refusal(a.number, a.id);
-            return write!(f, "{refusal}");
+        match self.0 {
+            Ok(changed) => {
+                let conf = Conf(changed.conf);
+                let log = Log(changed.log);
+                write!(f, "{conf}{log}")
+            }
+            Err(refusal) => {
+                let refused = Refused(refusal);
+                write!(f, "{refused}")
+            }
         }
-        let conf = Conf(a.conf);
-        let log = Log(a.log);
-        write!(f, "{conf}{log}")
     }
 }
 
 // A refusal's number and its id.
 #[derive(Clone, Copy)]
-struct Refusal(u64, u64);
+struct Refused(Refusal);
 
-impl fmt::Display for Refusal {
+impl fmt::Display for Refused {
     fn fmt<W: fmt::Write>(&self, f: &mut fmt::Formatter<W>) -> fmt::Result {
-        let Refusal(number, id) = *self;
+        let number = self.0.number();
+        let id = self.0.id();
         write!(f, "refused {number} id {id}")
     }
 }
@@ -55,15 +60,15 @@ impl fmt::Display for Log {
 
 // What `restore` and `restore_step_by_step` answer: the state that it leaves, after the refusal if there is one.
 #[derive(Clone, Copy)]
-pub(crate) struct Restored(pub Outcome);
+pub(crate) struct Restored(pub Result<(), Refusal>, pub Tracker);
 
 impl fmt::Display for Restored {
     fn fmt<W: fmt::Write>(&self, f: &mut fmt::Formatter<W>) -> fmt::Result {
-        let Restored(o) = *self;
-        let left = State(o.tracker);
-        if o.number != numbers::ACCEPTED {
-            let refusal = Refusal(o.number, o.id);
-            write!(f, "{refusal}, left with ")?;
+        let Restored(result, t) = *self;
+        let left = State(t);
+        if let Err(refusal) = result {
+            let refused = Refused(refusal);
+            write!(f, "{refused}, left with ")?;
         }
         write!(f, "{left}")
     }
@@ -71,15 +76,16 @@ impl fmt::Display for Restored {
 
 // What the check answers.
 #[derive(Clone, Copy)]
-pub(crate) struct Checked(pub Verdict);
+pub(crate) struct Checked(pub Result<(), Refusal>);
 
 impl fmt::Display for Checked {
     fn fmt<W: fmt::Write>(&self, f: &mut fmt::Formatter<W>) -> fmt::Result {
-        let Checked(v) = *self;
-        if v.number == numbers::ACCEPTED {
-            return write!(f, "the check passes");
+        match self.0 {
+            Ok(()) => write!(f, "the check passes"),
+            Err(refusal) => {
+                let refused = Refused(refusal);
+                write!(f, "{refused}")
+            }
         }
-        let refusal = Refusal(v.number, v.id);
-        write!(f, "{refusal}")
     }
 }

@@ -2,11 +2,12 @@
 // left comes back.
 use crate::answered::{Checked, Restored, Told};
 use crate::given::{Change, Changes, fresh};
-use changer::{Answer, enter_joint, leave_joint};
+use changer::{Changed, enter_joint, leave_joint};
 use progress::Progress;
 use restore::apply_answer;
 use std::io;
-use tracker::{ConfState, Outcome, Tracker};
+use tracker::refusal::Refusal;
+use tracker::{ConfState, Tracker};
 
 // The `next_idx` of the records that a call makes.
 const NEXT_IDX: u64 = 77;
@@ -24,7 +25,8 @@ pub(crate) fn simple(
     let n = list.len().min(MOST);
     let ids = ids_of(list);
     let kinds = kinds_of(list);
-    told(rt, asked, t, changer::simple(t, &ids[..n], &kinds[..n]))
+    let answer = changer::simple(&t, &ids[..n], &kinds[..n]);
+    told(rt, asked, t, answer)
 }
 
 // `enter_joint` with this list, without auto leave.
@@ -37,7 +39,8 @@ pub(crate) fn enter(
     let n = list.len().min(MOST);
     let ids = ids_of(list);
     let kinds = kinds_of(list);
-    told(rt, asked, t, enter_joint(t, false, &ids[..n], &kinds[..n]))
+    let answer = enter_joint(&t, false, &ids[..n], &kinds[..n]);
+    told(rt, asked, t, answer)
 }
 
 // The ids of a list.
@@ -71,19 +74,28 @@ pub(crate) fn enter_list(
 
 // `leave_joint`.
 pub(crate) fn leave(rt: &impl Print, asked: &str, t: Tracker) -> io::Result<Tracker> {
-    told(rt, asked, t, leave_joint(t))
+    let answer = leave_joint(&t);
+    told(rt, asked, t, answer)
 }
 
 // A call's line; what the call leaves once it is applied.
-fn told(rt: &impl Print, asked: &str, t: Tracker, a: Answer) -> io::Result<Tracker> {
-    let answer = Told(a);
-    println!(rt; "{asked}{answer}")?;
-    Ok(apply_answer(t, a, NEXT_IDX).tracker)
+fn told(
+    rt: &impl Print,
+    asked: &str,
+    mut t: Tracker,
+    answer: Result<Changed, Refusal>,
+) -> io::Result<Tracker> {
+    let said = Told(answer);
+    println!(rt; "{asked}{said}")?;
+    let _ = apply_answer(&mut t, answer, NEXT_IDX);
+    Ok(t)
 }
 
 // `restore` of the fresh state.
 pub(crate) fn restore(rt: &impl Print, asked: &str, cs: ConfState) -> io::Result<Tracker> {
-    restored(rt, asked, restore::restore(fresh(), cs, NEXT_IDX))
+    let mut t = fresh();
+    let result = restore::restore(&mut t, &cs, NEXT_IDX);
+    restored(rt, asked, t, result)
 }
 
 // `restore_step_by_step` of the fresh state.
@@ -92,29 +104,32 @@ pub(crate) fn restore_step_by_step(
     asked: &str,
     cs: ConfState,
 ) -> io::Result<Tracker> {
-    restored(
-        rt,
-        asked,
-        restore::restore_step_by_step(fresh(), cs, NEXT_IDX),
-    )
+    let mut t = fresh();
+    let result = restore::restore_step_by_step(&mut t, &cs, NEXT_IDX);
+    restored(rt, asked, t, result)
 }
 
 // A restore's line; the state that it leaves.
-fn restored(rt: &impl Print, asked: &str, o: Outcome) -> io::Result<Tracker> {
-    let outcome = Restored(o);
+fn restored(
+    rt: &impl Print,
+    asked: &str,
+    t: Tracker,
+    result: Result<(), Refusal>,
+) -> io::Result<Tracker> {
+    let outcome = Restored(result, t);
     println!(rt; "{asked}{outcome}")?;
-    Ok(o.tracker)
+    Ok(t)
 }
 
 // The check of a state.
 pub(crate) fn check(rt: &impl Print, asked: &str, t: Tracker) -> io::Result<()> {
-    let verdict = Checked(invariants::check(t));
+    let verdict = Checked(invariants::check(&t));
     println!(rt; "{asked}{verdict}")
 }
 
 // Whether a state is in order.
 pub(crate) fn in_order(rt: &impl Print, asked: &str, t: Tracker) -> io::Result<()> {
-    let answer = if invariants::in_order(t) { "yes" } else { "no" };
+    let answer = if invariants::in_order(&t) { "yes" } else { "no" };
     println!(rt; "{asked}{answer}")
 }
 

@@ -1,5 +1,4 @@
 // What the examples begin from: states, the kinds of a change, and the lists that are restored.
-use idset::IdSet;
 use restore::restore;
 use std::fmt;
 use tracker::{ConfState, IdList, Tracker};
@@ -49,7 +48,9 @@ pub(crate) fn fresh() -> Tracker {
 
 // A group with these voters and learners, each with a record whose `next_idx` is 10.
 pub(crate) fn group(voters: IdList, learners: IdList) -> Tracker {
-    restore(fresh(), conf_state(voters, learners, none(), none()), 10).tracker
+    let mut t = fresh();
+    let _ = restore(&mut t, &conf_state(voters, learners, none(), none()), 10);
+    t
 }
 
 // A group of voters alone.
@@ -61,7 +62,7 @@ pub(crate) fn voters(ids: &[u64]) -> Tracker {
 pub(crate) fn stuck() -> Tracker {
     let mut t = voters(&[1, 2]);
     t.conf.outgoing = t.conf.incoming;
-    t.conf.learners_next = IdSet::new().insert(2).set;
+    let _ = t.conf.learners_next.insert(2);
     t
 }
 

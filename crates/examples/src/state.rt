@@ -10,7 +10,7 @@ struct Ids(IdSet);
 impl fmt::Display for Ids {
     fn fmt<W: fmt::Write>(&self, f: &mut fmt::Formatter<W>) -> fmt::Result {
         write!(f, "(")?;
-        for (i, id) in self.0.ids.iter().take(self.0.len).enumerate() {
+        for (i, id) in self.0.as_slice().iter().enumerate() {
             if i != 0 {
                 write!(f, " ")?;
             }

@@ -3,22 +3,23 @@
 #![tactic(auto)]
 
 ghost use Rattle.std.specs.Prelude.{◌≡◌, ℕ, true, not, ◌&&◌, ◌+◌, ◌*◌, ◌≤◌, length};
-ghost use Rattle.rules.specs.Ids.{ascending};
 ghost use Rattle.rules.specs.Unplug.{voter_left};
 ghost use Rattle.idset.specs.Set.{held, well_formed};
 ghost use Rattle.tracker.specs.Apply.{verdict_of};
 ghost use Rattle.tracker.specs.Form.{conf_well_formed, tracker_well_formed};
+ghost use Rattle.tracker.specs.Refusals.{said};
 ghost use Rattle.changer.specs.Before.{own_check};
 ghost use Rattle.changer.specs.Calls.{unplug_of};
 ghost use Rattle.unplug.specs.Words.{at as word_in, set_by, within_by};
-ghost use Rattle.unplug.specs.Unplugs.{state_in, state_holds_in, answered_of};
+ghost use Rattle.unplug.specs.Unplugs.{answered, answered_of, state_in, state_holds_in};
 
 use crate::layout::{
     AUTO_LEAVE, INCOMING, LEARNERS, LEARNERS_NEXT, OUTGOING, PAUSED, RECENT_ACTIVE, RECORD,
     RECORD_STATE, RECORDS, RECORDS_END, TRACKED, WORDS,
 };
 use idset::IdSet;
-use tracker::{Tracker, Verdict, numbers};
+use tracker::Tracker;
+use tracker::refusal::Refusal;
 
 pub mod layout; // the places in a STATE
 
@@ -29,18 +30,10 @@ pub enum Unfit {
     Word,
 }
 
-// An answer of `unplug` as the theorems speak of it: 0, and the number and id; or the number of what is unfit.
-#[derive(Clone, Copy)]
-pub struct Told {
-    pub returned: u64,
-    pub number: u64,
-    pub id: u64,
-}
-
-// The number and id, of a state in words.
+// Whether the box `id` of a state in words can be unplugged, or why not.
 #[tactic(auto, unfolding(crate::specs::Unplugs::answered_of))]
-pub fn unplug(state: &[u64], id: u64) -> Result<Verdict, Unfit>
-    ensures { result ≡ answered_of state.now id }
+pub fn unplug(state: &[u64], id: u64) -> Result<Result<(), Refusal>, Unfit>
+    ensures { answered result ≡ answered_of state.now id }
 {
     if state.len() != WORDS {
         return Err(Unfit::Length);
@@ -52,30 +45,22 @@ pub fn unplug(state: &[u64], id: u64) -> Result<Verdict, Unfit>
 }
 
 // 1; 6; the check; 17.
-fn answer(s: &[u64], id: u64) -> Verdict
+#[tactic(auto, using(crate::proofs::Unplugged::unplug_tests))]
+fn answer(s: &[u64], id: u64) -> Result<(), Refusal>
     requires { (length s.now ≡ 967) × (state_holds_in s.now ≡ true) }
-    ensures { result ≡ unplug_of (state_in s.now) id }
+    ensures { verdict_of (said result) ≡ unplug_of (state_in s.now) id }
 {
     if malformed(s) {
-        return verdict(numbers::MALFORMED);
+        return Err(Refusal::Malformed);
     }
-    if word(s, OUTGOING + IdSet::CAPACITY) != 0 {
-        return verdict(numbers::SIMPLE_WHILE_JOINT);
+    if !held_at(s, OUTGOING).is_empty() {
+        return Err(Refusal::SimpleWhileJoint);
     }
-    let v = check(s);
-    if v.number != numbers::ACCEPTED {
-        return v;
+    check(s)?;
+    if none_left(held_at(s, INCOMING), id) {
+        return Err(Refusal::NoVoterLeft);
     }
-    if alone(s, id) {
-        return verdict(numbers::NO_VOTER_LEFT);
-    }
-    verdict(numbers::ACCEPTED)
-}
-
-fn verdict(number: u64) -> Verdict
-    ensures { result ≡ record { number = number; id = 0 } }
-{
-    Verdict { number, id: 0 }
+    Ok(())
 }
 
 // Word `k`, 0 where there is none.
@@ -165,46 +150,40 @@ fn malformed_at(s: &[u64], k: usize) -> bool
 }
 
 // The check.
-fn check(s: &[u64]) -> Verdict
+#[tactic(auto, unfolding(invariants::specs::Check::check_walk))]
+fn check(s: &[u64]) -> Result<(), Refusal>
     requires { length s.now ≡ 967 }
-    ensures { result ≡ verdict_of (own_check (state_in s.now)) }
+    ensures { said result ≡ own_check (state_in s.now) }
 {
-    let incoming = &s[INCOMING..OUTGOING - 1];
-    let i = word(s, OUTGOING - 1) as usize;
-    let outgoing = &s[OUTGOING..LEARNERS - 1];
-    let o = word(s, LEARNERS - 1) as usize;
-    let ids = &s[TRACKED..RECORDS - 1];
-    let n = word(s, RECORDS - 1) as usize;
-    let v = invariants::check_voters(incoming, i, outgoing, o, ids, n);
-    if v.number != numbers::ACCEPTED {
-        return v;
-    }
-    let learners = &s[LEARNERS..LEARNERS_NEXT - 1];
-    let l = word(s, LEARNERS_NEXT - 1) as usize;
-    let v = invariants::check_learners(learners, l, outgoing, o, incoming, i, ids, n);
-    if v.number != numbers::ACCEPTED {
-        return v;
-    }
-    let staged = &s[LEARNERS_NEXT..AUTO_LEAVE - 1];
-    let g = word(s, AUTO_LEAVE - 1) as usize;
-    let auto_leave = word(s, AUTO_LEAVE) == 1;
-    invariants::check_staged(staged, g, outgoing, o, auto_leave, ids, n)
+    let incoming = held_at(s, INCOMING);
+    let outgoing = held_at(s, OUTGOING);
+    let tracked = held_at(s, TRACKED);
+    invariants::check_voters(incoming, outgoing, tracked)?;
+    invariants::check_learners(held_at(s, LEARNERS), outgoing, incoming, tracked)?;
+    invariants::check_staged(
+        held_at(s, LEARNERS_NEXT),
+        outgoing,
+        word(s, AUTO_LEAVE) == 1,
+        tracked,
+    )
 }
 
-// Whether no incoming voter is left without `id`: an ascending set has another id unless it is empty or holds `id` alone. A removal of 0 is skipped.
-fn alone(s: &[u64], id: u64) -> bool
-    requires { (length s.now ≡ 967) × (ascending (held (set_by (word_in s.now) 0)) ≡ true) }
-    ensures { result ≡ not (voter_left id (held (set_by (word_in s.now) 0))) }
+// The ids that the set at `k` holds.
+fn held_at(s: &[u64], k: usize) -> &[u64]
+    requires { k + 64 ≤ length s.now }
+    ensures { result.now ≡ held (set_by (word_in s.now) k) }
 {
-    let n = word(s, INCOMING + IdSet::CAPACITY);
-    if n == 0 {
-        return true;
-    }
+    let ids = &s[k..k + IdSet::CAPACITY];
+    let count = word(s, k + IdSet::CAPACITY) as usize;
+    &ids[..count.min(ids.len())]
+}
+
+// Whether none of `voters` is left without `id`. A removal of 0 is skipped.
+fn none_left(voters: &[u64], id: u64) -> bool
+    ensures { result ≡ not (voter_left id voters.now) }
+{
     if id == 0 {
-        return false;
+        return voters.is_empty();
     }
-    if n != 1 {
-        return false;
-    }
-    word(s, INCOMING) == id
+    voters.iter().all(|voter| *voter == id)
 }
