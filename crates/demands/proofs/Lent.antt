@@ -1,7 +1,8 @@
 -- The contracts of text, listing, wire, confstate, comparison and calls: two results that one allows are equal, and so is what a lent output then holds. `Learnt` is as in
 -- proofs/Settled.antt. Assumes nothing.
 use Prim.Native.Nat.{ℕ}
-use mathlib.Core.Path.{◌≡◌}
+use Prim.{Unit}
+use mathlib.Core.Path.{◌≡◌, refl}
 use mathlib.Core.List.{List}
 use Rattle.text.specs.Put.{Put}
 use Rattle.text.specs.Writes.{Writes}
@@ -11,15 +12,14 @@ use Rattle.text.proofs.put_bytes.Reads as text-put-bytes
 use Rattle.text.proofs.put_decimal.Reads as text-put-decimal
 use Rattle.text.proofs.put_group.Reads as text-put-group
 use Rattle.listing.proofs.dimecandle_replay.Reads as listing-replay
-use Rattle.listing.proofs.begin.Reads as listing-begin
-use Rattle.listing.proofs.stops.Reads as listing-stops
-use Rattle.listing.proofs.turn.Reads as listing-turn
+use Rattle.listing.proofs.Session.begin.Reads as listing-begin
+use Rattle.listing.proofs.Session.stops.Reads as listing-stops
+use Rattle.listing.proofs.Session.turn.Reads as listing-turn
 use Rattle.listing.proofs.put_stopped.Reads as listing-put-stopped
 use Rattle.listing.proofs.put_ending.Reads as listing-put-ending
 use Rattle.listing.proofs.number_at.Reads as listing-number-at
 use Rattle.listing.proofs.line.put_answer.Reads as listing-put-answer
 use Rattle.listing.specs.declared.Session.{Session}
-use Rattle.listing.specs.declared.Turned.{Turned}
 use Rattle.calls.proofs.dimecandle_call.Reads as calls-call
 use Rattle.calls.proofs.dimecandle_unplug.Reads as calls-unplug
 use Rattle.calls.proofs.dimecandle_read_conf_state.Reads as calls-read-conf-state
@@ -42,9 +42,13 @@ use Rattle.calls.proofs.read.conf_state.Reads as calls-conf-state
 use Rattle.calls.proofs.write.put_reply.Reads as calls-put-reply
 use Rattle.demands.proofs.Settled.{Settles, equation}
 
--- P is a contract, `held` what a lent output holds at exit: of the same arguments it allows one result and one output
-abbrev pub SettlesWith : {K : Type 0} {A Z E : K → Type 0} → ((κs : K) → A κs → Z κs → E κs → Type 0) → ((κs : K) → E κs → List ℕ) → Type 0
-SettlesWith {K} {A} {Z} {E} P held = (κs : K) (a : A κs) (z y : Z κs) (e d : E κs) → P κs a z e → P κs a y d → (z ≡ y) × (held κs e ≡ held κs d)
+-- P is a contract, `held` what is held at exit of what was lent: of the same arguments it allows one result and one of that
+abbrev pub SettlesWith : {K : Type 0} {A Z E : K → Type 0} {H : Type 0} → ((κs : K) → A κs → Z κs → E κs → Type 0) → ((κs : K) → E κs → H) → Type 0
+SettlesWith {K} {A} {Z} {E} {H} P held = (κs : K) (a : A κs) (z y : Z κs) (e d : E κs) → P κs a z e → P κs a y d → (z ≡ y) × (held κs e ≡ held κs d)
+
+-- what an output holds, and its place
+abbrev pub held_by : Output → List ℕ × ℕ
+held_by o = (o.bytes.now, o.at)
 
 -- the place after a text, and the slice
 pub put-settled : {old text : List ℕ} {at : ℕ} {m n : List ℕ} {p q : ℕ} → Put old at text m p → Put old at text n q → (p ≡ q) × (m ≡ n)
@@ -72,28 +76,37 @@ text = search put-settled
 
 -- ** listing
 
+abbrev pub left_by : Session → Output → Session × (List ℕ × ℕ)
+left_by z o = (z, held_by o)
+
 pub record Listings : Type 0 where
   pub dimecandle_replay : SettlesWith listing-replay.Learnt (λ κs e. e.1.0.now)
   pub begin : Settles listing-begin.Learnt
   pub stops : Settles listing-stops.Learnt
-  pub turn : SettlesWith listing-turn.Learnt (λ κs e. e.0.now)
-  pub put_stopped : SettlesWith listing-put-stopped.Learnt (λ κs e. e.0.now)
-  pub put-ending : SettlesWith listing-put-ending.Learnt (λ κs e. e.0.now)
+  -- the session, and the output
+  pub turn : SettlesWith listing-turn.Learnt (λ κs e. left_by e.0.now e.1.0.now)
+  pub put_stopped : SettlesWith listing-put-stopped.Learnt (λ κs e. held_by e.0.now)
+  pub put-ending : SettlesWith listing-put-ending.Learnt (λ κs e. held_by e.0.now)
   pub number_at : Settles listing-number-at.Learnt
-  pub put-answer : SettlesWith listing-put-answer.Learnt (λ κs e. e.0.now)
+  pub put-answer : SettlesWith listing-put-answer.Learnt (λ κs e. held_by e.0.now)
 
--- `turn`: besides, what is gone on with
-turned : {old text : List ℕ} {at : ℕ} {m n : List ℕ} {v : Session} {t u : Turned} → Put old at text m t.at × (t.session ≡ v) → Put old at text n u.at × (u.session ≡ v) → (t ≡ u) × (m ≡ n)
+-- an output after a text
+written-settled : {old p q : Output} {text : List ℕ} {z y : Unit {0}} → Writes old text p → Writes old text q → (z ≡ y) × (held_by p ≡ held_by q)
+written-settled a b = let p = put-settled a.put b.put in
+    (refl, λ i. (p.1 i, p.0 i))
+
+-- a session and an output after a turn
+turned : {old p q : Output} {text : List ℕ} {v t u : Session} {z y : Unit {0}} → Writes old text p × (t ≡ v) → Writes old text q × (u ≡ v) → (z ≡ y) × (left_by t p ≡ left_by u q)
 turned {t = t} {u = u} a b =
-    let p = put-settled a.0 b.0 in
-    ((λ i. record { at = p.0 i; session = equation t.session u.session a.1 b.1 i }), p.1)
+    let p = put-settled a.0.put b.0.put in
+    (refl, λ i. (equation t u a.1 b.1 i, (p.1 i, p.0 i)))
 
 -- an entry: what it returns, and what it leaves
 both : {A B : Type 0} {v : A} {w : B} {r q : A} {m n : B} → (r ≡ v) × (m ≡ w) → (q ≡ v) × (n ≡ w) → (r ≡ q) × (m ≡ n)
 both {r = r} {q = q} {m = m} {n = n} a b = (equation r q a.0 b.0, equation m n a.1 b.1)
 
 pub listing : Listings
-listing = search (equation, put-settled, turned, both)
+listing = search (equation, written-settled, turned, both)
 
 -- ** wire, confstate and comparison
 

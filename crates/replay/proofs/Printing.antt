@@ -120,8 +120,8 @@ module _ {s block : List ℕ} {a b : Option (List ℕ)} {n k : ℕ} {z : Session
           }
 
       -- the block is written
-      pub print_block : (c : Option (List ℕ)) → Appends b c (take q new) → Printing s a c new 0 next (k + 1)
-      print_block c w =
+      pub print_block : (c : Option (List ℕ)) {after : List ℕ} → length after ≡ length new → Appends b c (take q new) → Printing s a c after 0 next (k + 1)
+      print_block c e w =
           record {
             done = l.done ++ take q new;
             written = Appends-trans a b c l.done (take q new) l.written w;
@@ -129,6 +129,6 @@ module _ {s block : List ℕ} {a b : Option (List ℕ)} {n k : ℕ} {z : Session
             good = good_next;
             count = count_next;
             room = omega arith;
-            size = put-length put ∙ l.size;
+            size = e ∙ put-length put ∙ l.size;
             text = append_assoc l.done (take q new) (lines_from s (k + 1) (session_of next)) ∙ text_is;
           }

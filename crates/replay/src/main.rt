@@ -6,8 +6,10 @@ ghost use Rattle.std.specs.Prelude.{OnOk};
 ghost use Rattle.std.specs.Io.KnownBytes.{Appends};
 ghost use Rattle.listing.specs.Listing.{listing};
 
+use listing::Session;
 use std::io::Write;
 use streams::Unwritten;
+use text::Output;
 
 // A block of lines. It is written out where it may have no room for a line more: no line is longer than 11,520 bytes (`line-size`, crates/listing/proofs).
 const BLOCK: usize = 32768;
@@ -19,26 +21,27 @@ fn list<W: Write, E: Write>(script: &[u8], out: &mut W, errors: &mut E) -> Resul
     ensures { OnOk result (Appends (W.contents out.old) (W.contents out.new) (listing script.now)) }
 {
     let mut block = [0u8; BLOCK];
-    let mut n = 0;
-    let mut z = listing::begin();
+    let mut to = Output::new(&mut block);
+    let mut session = Session::begin();
     let records = script.len() / 9;
     for k in 0..records {
         let at = 9 * k;
         let kind = script[at];
-        if listing::stops(z, kind) {
-            let end = listing::put_stopped(&mut block, n, at);
-            return write(&block[..end], out, errors);
+        if session.stops(kind) {
+            listing::put_stopped(&mut to, at);
+            let end = to.at;
+            return write(&to.bytes[..end], out, errors);
         }
-        let t = listing::turn(&mut block, n, z, kind, listing::number_at(script, at + 1));
-        n = t.at;
-        z = t.session;
-        if FULL < n {
-            write(&block[..n], out, errors)?;
-            n = 0;
+        session.turn(&mut to, kind, listing::number_at(script, at + 1));
+        let end = to.at;
+        if FULL < end {
+            write(&to.bytes[..end], out, errors)?;
+            to.at = 0;
         }
     }
-    let end = listing::put_ending(&mut block, n, 9 * records, script.len(), z);
-    write(&block[..end], out, errors)
+    listing::put_ending(&mut to, 9 * records, script.len(), &session);
+    let end = to.at;
+    write(&to.bytes[..end], out, errors)
 }
 
 // Bytes of the listing. What fails is said.

@@ -1,13 +1,14 @@
 -- What each branch of the functions answers. Assumes nothing.
-use Prim.Native.Nat.{ℕ, zero, suc, ◌≤◌}
+use Prim.Native.Nat.{ℕ, ◌≤◌}
 use mathlib.Core.Path.{◌≡◌, refl, ap, ◌∙◌, sym}
 use mathlib.Core.Bool.{Bool, true, false, ◌||◌, not}
 use mathlib.Core.List.{List, [], ◌∷◌, ◌++◌}
 use native.Mathlib.Omega.{arith}
-use borrow.Author.Tests.{eq-eqb, ne_eqb, le-leb, ltb-false, not-true, not-false}
+use borrow.Author.Tests.{le-leb, ltb-false, not-true, not-false}
 use lib.Dec.{ltb}
-use lib.ListN.{length, take, length-take}
+use lib.ListN.{length, length-take}
 use Rattle.std.specs.List.{list_any}
+use Rattle.std.specs.Prelude.{Result, Ok, Err}
 use Rattle.rules.specs.Ids.{is_empty}
 use Rattle.rules.specs.State.{Change, add_learner, add_node}
 use Rattle.rules.specs.Answers.{ok}
@@ -15,16 +16,17 @@ use Rattle.rules.specs.Restore as rules
 use Rattle.rules.specs.Restore.{Step, all, enter_step, one_by_one, restorable, restore_steps, short, simple_step, wanted}
 use Rattle.rules.proofs.Demand3.{all_short}
 use Rattle.rules.proofs.Sets.{or_left, or_right}
-use Rattle.tracker.specs.Apply.{apply_of, refused_of}
+use Rattle.tracker.specs.Apply.{Outcome, apply_of, outcome_left, refused_of}
 use Rattle.tracker.specs.Bridge.{entries_in, lists_of, state_of}
 use Rattle.tracker.specs.Form.{tracker_well_formed}
 use Rattle.tracker.specs.declared.ConfState.{ConfState}
 use Rattle.tracker.specs.declared.IdList.{IdList}
-use Rattle.tracker.specs.declared.Outcome.{Outcome}
 use Rattle.tracker.specs.declared.Tracker.{Tracker}
 use Rattle.tracker.proofs.Bridge.{tracker_formed}
-use Rattle.changer.specs.Calls.{enter_answer}
-use Rattle.changer.specs.declared.Answer.{Answer}
+use Rattle.tracker.specs.declared.refusal.Refusal.{Refusal}
+use Rattle.changer.specs.Calls.{Answer, answered, enter_answer}
+use Rattle.changer.specs.declared.Changed.{Changed}
+use Rattle.changer.proofs.Answered.{refused_number}
 use Rattle.restore.specs.Restore.{applied_to, step_by_step_of, steps_of, too_long}
 use Rattle.restore.specs.Steps.{Listed, entered, ids_in, joint_steps, kinds_in}
 use Rattle.restore.specs.declared.Changes.{Changes}
@@ -32,14 +34,14 @@ use Rattle.restore.proofs.Steps.{enter_step_lem, steps-formed, steps_on, steps-s
 
 -- ** apply_answer
 
-module _ (t : Tracker) (a : Answer) (next : ℕ) {o : Outcome} where
-  pub answer-refused : (a.number ≡ 0 → ⊥) → o ≡ refused_of t a.number a.id → o ≡ applied_to t a next
+module _ (t : Tracker) (next : ℕ) {a : Result Changed Refusal} where
+  pub answer-refused : {q : Refusal} → a ≡ Err q → outcome_left t a ≡ applied_to t (answered t.conf a) next
   unfolding applied_to
-  answer-refused h e = e ∙ rw (ne_eqb a.number 0 h)
+  answer-refused {q} e = rw (e, refused_number q)
 
-  pub answer-applied : a.number ≡ 0 → o ≡ apply_of t a.conf a.log next → o ≡ applied_to t a next
+  pub answer-applied : {x : Changed} → a ≡ Ok x → {o : Outcome} → o ≡ apply_of t x.conf x.log next → o ≡ applied_to t (answered t.conf a) next
   unfolding applied_to
-  answer-applied h e = e ∙ rw (eq-eqb a.number 0 h)
+  answer-applied e h = h ∙ rw e
 
 -- ** too_long
 
@@ -153,11 +155,6 @@ module _ (t : Tracker) (w : tracker_well_formed t ≡ true) (cs : ConfState) (ne
 
 -- ** restore_step_by_step
 
-some-taken : (n : ℕ) (l : List ℕ) → (n ≡ 0 → ⊥) → length l ≡ 64 → is_empty (take n l) ≡ false
-some-taken zero l h s = absurd (h refl)
-some-taken (suc n) [] h s = absurd (omega arith)
-some-taken (suc n) (x ∷ l) h s = refl
-
 fits : (l : IdList) → l.len ≤ 64 → short (entries_in l) ≡ true
 fits l n = le-leb (length (entries_in l)) 64 (omega (arith, length-take l.len l.ids))
 
@@ -173,14 +170,14 @@ module _ (t : Tracker) (w : tracker_well_formed t ≡ true) (cs : ConfState) (f 
   unfolding step_by_step_of rules.restore_step_by_step
   steps ps e = rw (w, f, passed, e)
 
-  module _ {o : Outcome} where
-    pub steps_3 : cs.voters_outgoing.len ≡ 0 → o ≡ steps_of t next (one_by_one (wanted (lists_of cs))) → o ≡ step_by_step_of t cs next
+  module _ {b : Bool} (g : b ≡ is_empty (entries_in cs.voters_outgoing)) {o : Outcome} where
+    pub steps_3 : b ≡ true → o ≡ steps_of t next (one_by_one (wanted (lists_of cs))) → o ≡ step_by_step_of t cs next
     unfolding restore_steps
-    steps_3 z q = q ∙ steps (one_by_one (wanted (lists_of cs))) (rw z)
+    steps_3 z q = q ∙ steps (one_by_one (wanted (lists_of cs))) (rw (← g, z))
 
-    pub steps_4 : (cs.voters_outgoing.len ≡ 0 → ⊥) → length cs.voters_outgoing.ids ≡ 64 → o ≡ steps_of t next (joint_steps cs) → o ≡ step_by_step_of t cs next
+    pub steps_4 : b ≡ false → o ≡ steps_of t next (joint_steps cs) → o ≡ step_by_step_of t cs next
     unfolding restore_steps
-    steps_4 z s q = q ∙ steps (joint_steps cs) (rw (some-taken cs.voters_outgoing.len cs.voters_outgoing.ids z s))
+    steps_4 z q = q ∙ steps (joint_steps cs) (rw (← g, z))
 
 module _ (t : Tracker) (cs : ConfState) (next : ℕ) {o : Outcome} where
   pub steps_1 : tracker_well_formed t ≡ false → o ≡ refused_of t 1 0 → o ≡ step_by_step_of t cs next

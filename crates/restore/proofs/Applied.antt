@@ -14,10 +14,9 @@ use Rattle.rules.proofs.Check.{then_right}
 use Rattle.rules.proofs.Demand3.{read_short}
 use Rattle.rules.proofs.Order.{step_short}
 use Rattle.rules.proofs.Numbers.{Numbered, NumberedAnswer, readable-numbered, refuse-numbered, then_numbered}
-use Rattle.tracker.specs.Apply.{apply_of, outcome_of}
+use Rattle.tracker.specs.Apply.{Outcome, apply_of, outcome_of}
 use Rattle.tracker.specs.Bridge.{state_of}
 use Rattle.tracker.specs.Form.{tracker_well_formed}
-use Rattle.tracker.specs.declared.Outcome.{Outcome}
 use Rattle.tracker.specs.declared.Tracker.{Tracker}
 use Rattle.tracker.proofs.Bridge.{conf-back, conf_well, log_back, log_well, tracker_formed, tracker_well, unit_tracker}
 use Rattle.changer.specs.Calls.{answer_of, enter_answer, leave_answer, simple_answer}
@@ -107,15 +106,3 @@ module _ (t : Tracker) (w : tracker_well_formed t ≡ true) (next : ℕ) where
   pub leave-applied : applied_to t (leave_answer t) next ≡ outcome_of (apply_answer (state_of t) next (leave_joint (state_of t)))
   unfolding leave_answer
   leave-applied = rw w (applied-same 0 (leave_joint (state_of t)) (leave_fits (state_of t) next (tracker_formed t w)))
-
-  pub simple-formed : (xs ks : List ℕ) → tracker_well_formed (applied_to t (simple_answer t xs ks) next).tracker ≡ true
-  unfolding simple_answer
-  simple-formed xs ks = rw w (outcome-formed (simple_idles (state_of t) xs ks) (simple (state_of t) xs ks) (simple-fits (state_of t) next (tracker_formed t w) xs ks))
-
-  pub enter-formed : (auto : Bool) (xs ks : List ℕ) → tracker_well_formed (applied_to t (enter_answer t auto xs ks) next).tracker ≡ true
-  unfolding enter_answer
-  enter-formed auto xs ks = rw w (outcome-formed (enter_idles (state_of t) auto xs ks) (enter_joint (state_of t) auto xs ks) (enter-fits (state_of t) next (tracker_formed t w) auto xs ks))
-
-  pub leave-formed : tracker_well_formed (applied_to t (leave_answer t) next).tracker ≡ true
-  unfolding leave_answer
-  leave-formed = rw w (outcome-formed 0 (leave_joint (state_of t)) (leave_fits (state_of t) next (tracker_formed t w)))

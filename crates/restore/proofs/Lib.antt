@@ -1,4 +1,5 @@
 pub mod Sizes
+pub mod Told
 pub mod Marked
 pub mod Applied
 pub mod Steps

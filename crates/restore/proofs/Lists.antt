@@ -80,17 +80,14 @@ In c cs = Reads (ids_in c) (kinds_in c) cs
 one_more : {c r : Changes} {l : IdList} {cs : List Change} (k : ℕ) → k ≤ 2 → In c cs → Appended c l k r → In r (cs ++ all (kind_of k) (entries_in l))
 one_more {c} {r} {l} {cs} k h i a = rw (a.ids, a.kinds) (reads_append i (reads_all k h (entries_in l)))
 
-pub few-more : {c r : Changes} {l : IdList} {k : ℕ} → Appended c l k r → length l.ids ≡ 64 → r.len ≤ c.len + 64
-few-more {c} {r} {l} a h = omega (arith, a.count, length-take l.len l.ids)
-
 -- the four lists one behind the other
 pub listed-all : (cs : ConfState) (c₀ c₁ c₂ c₃ c₄ : Changes) → c₀.len ≡ 0
     → Appended c₀ cs.voters_outgoing 1 c₁ → Appended c₁ cs.voters 0 c₂ → Appended c₂ cs.learners 2 c₃ → Appended c₃ cs.learners_next 2 c₄
-    → c₄.len ≤ 256 → Listed c₄ (entered cs)
-listed-all cs c₀ c₁ c₂ c₃ c₄ z a b d e h =
+    → Listed c₄ (entered cs)
+listed-all cs c₀ c₁ c₂ c₃ c₄ z a b d e =
     record {
-      few = h;
-      reads = reads-readable i₄ (omega (arith, length-take c₄.len c₄.ids));
+      few = omega (arith, a.count, a.few, b.count, b.few, d.count, d.few, e.count, e.few);
+      reads = reads-readable i₄ (omega (arith, length-take c₄.len c₄.ids, a.count, a.few, b.count, b.few, d.count, d.few, e.count, e.few));
       says = i₄.says ∙ simp append_assoc;
     }
   where
@@ -104,18 +101,20 @@ listed-all cs c₀ c₁ c₂ c₃ c₄ z a b d e h =
 
 -- the ids of `left`, of those of l, are not yet behind c₀: c has the others there
 pub record Appending (c₀ : Changes) (l : IdList) (k : ℕ) (c : Changes) (left : List ℕ) : Type 0 where
+  pub few : length (entries_in l) ≤ 64
   pub room : c.len + length left ≤ 256
   pub count : c.len + length left ≡ c₀.len + length (entries_in l)
   pub ids : ids_in c ++ left ≡ ids_in c₀ ++ entries_in l
   pub kinds : kinds_in c ++ replicate (length left) k ≡ kinds_in c₀ ++ replicate (length (entries_in l)) k
 
 pub appending_start : (c : Changes) (l : IdList) (k : ℕ) {left : List ℕ} → length l.ids ≡ 64 → c.len ≤ 192 → left ≡ entries_in l → Appending c l k c left
-appending_start c l k h g e = record { room = rw e (omega (arith, length-take l.len l.ids)); count = rw e; ids = rw e; kinds = rw e }
+appending_start c l k h g e = record { few = omega (arith, length-take l.len l.ids); room = rw e (omega (arith, length-take l.len l.ids)); count = rw e; ids = rw e; kinds = rw e }
 
 module _ {c₀ c : Changes} {l : IdList} {k : ℕ} {left : List ℕ} (s : Appending c₀ l k c left) where
   pub appending_end : left ≡ [] → Appended c₀ l k c
   appending_end e =
       record {
+        few = s.few;
         count = omega (arith, rw e at s.count);
         ids = sym (append-nil (ids_in c)) ∙ (rw e at s.ids);
         kinds = sym (append-nil (kinds_in c)) ∙ (rw e at s.kinds);
@@ -128,6 +127,7 @@ module _ {c₀ c : Changes} {l : IdList} {k : ℕ} {left : List ℕ} (s : Append
     pub appending_next : {r : Changes} → Pushed c x k r → Appending c₀ l k r xs
     appending_next {r} p =
         record {
+          few = s.few;
           room = omega (arith, rw e at s.room, p.count);
           count = omega (arith, rw e at s.count, p.count);
           ids = rw p.ids (append_assoc (ids_in c) (x ∷ []) xs ∙ (rw e at s.ids));

@@ -1,21 +1,22 @@
 -- `restore_step_by_step` and `restore` on trackers: past 1 and 2 each is the rules', and the one is the other made whole. Assumes nothing.
 use Prim.Native.Nat.{ℕ}
 use mathlib.Core.Path.{◌≡◌, refl, ap, ◌∙◌, sym}
-use mathlib.Core.Bool.{Bool, true, false}
-use borrow.Author.Tests.{eq-eqb, ne_eqb}
+use mathlib.Core.Bool.{Bool, true, false, true≢false}
+use Rattle.std.specs.Prelude.{Result, Ok, Err, is_err}
 use Rattle.rules.specs.State.{State}
 use Rattle.rules.specs.Answers.{Verdict, fault, ok, settle}
 use Rattle.rules.specs.Restore as rules
 use Rattle.rules.specs.Restore.{restore_steps, run}
 use Rattle.rules.proofs.Demand3.{all_short, restore-short}
 use Rattle.rules.proofs.Numbers.{Numbered}
-use Rattle.tracker.specs.Apply.{outcome_of, refused_of}
+use Rattle.tracker.specs.Apply.{Outcome, outcome_left, outcome_of}
 use Rattle.tracker.specs.Bridge.{lists_of, state_of}
 use Rattle.tracker.specs.Form.{tracker_well_formed}
 use Rattle.tracker.specs.declared.ConfState.{ConfState}
-use Rattle.tracker.specs.declared.Outcome.{Outcome}
 use Rattle.tracker.specs.declared.Tracker.{Tracker}
+use Rattle.tracker.specs.declared.refusal.Refusal.{Refusal}
 use Rattle.tracker.proofs.Bridge.{tracker_formed, unit_tracker}
+use Rattle.changer.proofs.Answered.{refused_number}
 use Rattle.restore.specs.Restore.{restore_of, step_by_step_of, too_long, whole_of}
 use Rattle.restore.proofs.Marked.{Marked}
 use Rattle.restore.proofs.Steps.{Left, run-left}
@@ -66,16 +67,16 @@ module _ (t : Tracker) (cs : ConfState) (next : ℕ) where
           rw (p, q) (settled p (rules.restore_step_by_step (state_of t) (lists_of cs) next).verdict (rules.restore_step_by_step (state_of t) (lists_of cs) next).state (steps-left t p cs q next).marked)
       go false f p q = rw p
 
-  -- what the code returns
+  -- what the code leaves and returns
   pub made-whole : {o r : Outcome} → o ≡ step_by_step_of t cs next → r ≡ whole_of t o → r ≡ restore_of t cs next
   made-whole e q = q ∙ ap (whole_of t) e ∙ sym restore-whole
 
--- what `whole` returns
-module _ (t : Tracker) (o : Outcome) where
-  pub whole-refused : (o.number ≡ 0 → ⊥) → {r : Outcome} → r ≡ refused_of t o.number o.id → r ≡ whole_of t o
+  pub whole-refused : {A : Type 0} (r : Result A Refusal) {u : Tracker} → outcome_left u r ≡ step_by_step_of t cs next → {b : Bool} → b ≡ is_err r → b ≡ true → outcome_left t r ≡ restore_of t cs next
   unfolding whole_of
-  whole-refused h q = q ∙ rw (ne_eqb o.number 0 h)
+  whole-refused (Ok a) e f h = absurd (true≢false (sym h ∙ f))
+  whole-refused (Err q) e f h = made-whole e (rw (refused_number q))
 
-  pub whole-accepted : o.number ≡ 0 → o ≡ whole_of t o
+  pub whole-accepted : {A : Type 0} (r : Result A Refusal) {u : Tracker} → outcome_left u r ≡ step_by_step_of t cs next → {b : Bool} → b ≡ is_err r → b ≡ false → outcome_left u r ≡ restore_of t cs next
   unfolding whole_of
-  whole-accepted h = rw (eq-eqb o.number 0 h)
+  whole-accepted (Ok a) e f h = made-whole e refl
+  whole-accepted (Err q) e f h = absurd (true≢false (sym f ∙ h))

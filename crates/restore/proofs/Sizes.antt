@@ -8,10 +8,6 @@ use lib.ListN.{length}
 use denote.Laws.{Is}
 use denote.Struct.Laws as LL
 use Rattle.rules.specs.State.{Change}
-use Rattle.tracker.specs.declared.ConfState.{ConfState}
-use Rattle.tracker.specs.contracts.ConfState as F
-use Rattle.tracker.proofs.ConfState.TheLaws as F'
-use Rattle.tracker.proofs.Sizes.{list_sized}
 use Rattle.restore.specs.Steps.{Listed}
 use Rattle.restore.specs.declared.Changes.{Changes}
 use Rattle.restore.specs.contracts.Changes as C
@@ -30,16 +26,3 @@ module _ {vs : List Val} (c : Changes) (p : Is C.the_row c vs) where
 
   pub kinds-room : {cs : List Change} → Listed c cs → c.len ≤ length c.kinds
   kinds-room h = rw kinds_sized h.few
-
-module _ {vs : List Val} (cs : ConfState) (p : Is F.the_row cs vs) where
-  pub voters_sized : length cs.voters.ids ≡ 64
-  voters_sized = list_sized cs.voters (LL.owed F.the_type F'.the_laws cs vs p).0
-
-  pub learners_sized : length cs.learners.ids ≡ 64
-  learners_sized = list_sized cs.learners (LL.owed F.the_type F'.the_laws cs vs p).1.0
-
-  pub outgoing_sized : length cs.voters_outgoing.ids ≡ 64
-  outgoing_sized = list_sized cs.voters_outgoing (LL.owed F.the_type F'.the_laws cs vs p).1.1.0
-
-  pub staged_sized : length cs.learners_next.ids ≡ 64
-  staged_sized = list_sized cs.learners_next (LL.owed F.the_type F'.the_laws cs vs p).1.1.1.0

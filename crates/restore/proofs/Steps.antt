@@ -14,11 +14,10 @@ use Rattle.rules.specs.Calls.{enter_joint, kind_of, list_of, readable, simple}
 use Rattle.rules.specs.Restore.{Step, ask, attempt, enter_step, go_on, run, simple_step}
 use Rattle.rules.proofs.Demand3.{all_short}
 use Rattle.rules.proofs.Singles.{run_append}
-use Rattle.tracker.specs.Apply.{id_of, number_of, outcome_of}
+use Rattle.tracker.specs.Apply.{Outcome, id_of, number_of, outcome_of}
 use Rattle.tracker.specs.Bridge.{state_of, tracker_of}
 use Rattle.tracker.specs.Form.{tracker_well_formed}
 use Rattle.rules.proofs.Numbers.{Numbered}
-use Rattle.tracker.specs.declared.Outcome.{Outcome}
 use Rattle.tracker.specs.declared.Tracker.{Tracker}
 use Rattle.tracker.proofs.Bridge.{state-back, tracker_formed, tracker_well}
 use Rattle.changer.specs.Calls.{enter_answer, simple_answer}

@@ -1,5 +1,5 @@
--- `restore`, `restore_step_by_step`, `whole` and `apply_answer` tried on small states. Above each line stands what it rules out: a program that would leave another state, or
--- answer another number or id. Assumes nothing.
+-- `restore`, `restore_step_by_step`, what makes the one of the other, and `apply_answer` tried on small states. Above each line stands what it rules
+-- out: a program that would leave another state, or answer another number or id. Assumes nothing.
 use Rattle.std.specs.Prelude.{ℕ, ◌≡◌, refl, true, false, List, [], ◌∷◌}
 use Rattle.progress.specs.Record.{is_unused}
 use Rattle.rules.specs.Ids.{memb, above, ascending, insert_id, insert_all, remove_id, minus}
@@ -18,10 +18,9 @@ use Rattle.idset.specs.Places.{zeros}
 use Rattle.idset.specs.Set.{set_of, well_formed}
 use Rattle.tracker.specs.Bridge.{configuration_of, peers_of, records_of, record_places, tracker_of, entries_of, map_changes_of, change_log_of, conf_state_of}
 use Rattle.tracker.specs.Form.{conf_well_formed, all_unused, tracker_well_formed, is_blank, all_blank, log_well_formed}
-use Rattle.tracker.specs.Apply.{refused_of, apply_of}
+use Rattle.tracker.specs.Apply.{Outcome, refused_of, apply_of}
 use Rattle.tracker.specs.declared.ConfState.{ConfState}
-use Rattle.tracker.specs.declared.Outcome.{Outcome}
-use Rattle.changer.specs.declared.Answer.{Answer}
+use Rattle.changer.specs.Calls.{Answer}
 use Rattle.restore.specs.Restore.{applied_to, whole_of, too_long, restore_of, step_by_step_of}
 
 abbrev leaves : State → Outcome
@@ -84,9 +83,9 @@ unfolding step_by_step_of too_long tracker_well_formed conf_well_formed well_for
 restored-step-by-step = (refl, refl, refl, refl, refl)
 
 pub made-whole :
-    -- `whole` that keeps what a refused restore left; that drops the refusal's id
+    -- keeps what a refused restore left; drops the refusal's id
     (whole_of (tracker_of s1) (refused_of (tracker_of half) 16 65) ≡ refused_of (tracker_of s1) 16 65)
-    -- `whole` that gives back the state of an accepted one
+    -- gives back the state of an accepted one
     × (whole_of (tracker_of s1) (leaves half) ≡ leaves half)
 unfolding whole_of
 made-whole = (refl, refl)

@@ -4,11 +4,10 @@ use Rattle.rules.specs.Answers as R
 use Rattle.rules.specs.Restore as rules
 use Rattle.tracker.specs.Bridge.{state_of, lists_of}
 use Rattle.tracker.specs.Form.{tracker_well_formed}
-use Rattle.tracker.specs.Apply.{refused_of, outcome_of, apply_of}
+use Rattle.tracker.specs.Apply.{Outcome, refused_of, outcome_of, apply_of}
 use Rattle.tracker.specs.declared.Tracker.{Tracker}
 use Rattle.tracker.specs.declared.ConfState.{ConfState}
-use Rattle.tracker.specs.declared.Outcome.{Outcome}
-use Rattle.changer.specs.declared.Answer.{Answer}
+use Rattle.changer.specs.Calls.{Answer}
 
 -- an accepted answer is applied at once to the state that it was asked of; a refused one leaves it
 unfoldable pub applied_to : Tracker → Answer → ℕ → Outcome

@@ -35,6 +35,7 @@ pub record Pushed (c : Changes) (x k : ℕ) (r : Changes) : Type 0 where
 
 -- r is c with each id of l, of the kind k
 pub record Appended (c : Changes) (l : IdList) (k : ℕ) (r : Changes) : Type 0 where
+  pub few : length (entries_in l) ≤ 64
   pub count : r.len ≡ c.len + length (entries_in l)
   pub ids : ids_in r ≡ ids_in c ++ entries_in l
   pub kinds : kinds_in r ≡ kinds_in c ++ replicate (length (entries_in l)) k

@@ -4,17 +4,20 @@
 
 ghost use Rattle.std.specs.Prelude.{◌≡◌, true, false, [], ◌∷◌, ◌≤◌, ◌<◌};
 ghost use Rattle.changes.specs.Table.{kind_named};
+ghost use Rattle.rules.specs.Ids.{is_empty};
 ghost use Rattle.rules.specs.Restore.{all, enter_step, one_by_one, wanted};
+ghost use Rattle.tracker.specs.Apply.{outcome_left};
 ghost use Rattle.tracker.specs.Bridge.{entries_in, lists_of};
 ghost use Rattle.tracker.specs.Form.{tracker_well_formed};
-ghost use Rattle.changer.specs.Calls.{simple_answer};
-ghost use Rattle.restore.specs.Restore.{applied_to, whole_of, too_long, steps_of, step_by_step_of, restore_of};
+ghost use Rattle.changer.specs.Calls.{simple_answer, answered};
+ghost use Rattle.restore.specs.Restore.{applied_to, too_long, steps_of, step_by_step_of, restore_of};
 ghost use Rattle.restore.specs.Steps.{Appended, Listed, Pushed, entered, joint_steps, number_in};
 
-use changer::{Answer, enter_joint, simple};
+use changer::{Changed, enter_joint, simple};
 use changes::table::Kind;
-use tracker::apply::{applied, refused};
-use tracker::{ConfState, IdList, Outcome, Tracker, numbers};
+use tracker::apply::apply_conf;
+use tracker::refusal::Refusal;
+use tracker::{ConfState, IdList, Tracker};
 
 // A change list: the first `len` of `ids` and of `kinds`.
 #[derive(Clone, Copy)]
@@ -24,43 +27,37 @@ pub struct Changes {
     pub len: usize,
 }
 
-// The configuration described in the ConfState, or the state given: where a step is refused, none stays.
-pub fn restore(t: Tracker, cs: ConfState, next_idx: u64) -> Outcome
-    ensures { result ≡ restore_of t cs next_idx }
+// The configuration described in the ConfState; where a step is refused, none stays.
+pub fn restore(t: &mut Tracker, cs: &ConfState, next_idx: u64) -> Result<(), Refusal>
+    ensures { outcome_left t.new result ≡ restore_of t.old cs.now next_idx }
 {
-    let outcome = restore_step_by_step(t, cs, next_idx);
-    whole(t, outcome)
-}
-
-// What a restore came to, or the state given under the number and id of its refusal.
-pub fn whole(t: Tracker, o: Outcome) -> Outcome
-    ensures { result ≡ whole_of t o }
-{
-    if o.number != numbers::ACCEPTED {
-        return refused(t, o.number, o.id);
+    let given = *t;
+    let result = restore_step_by_step(t, cs, next_idx);
+    if result.is_err() {
+        *t = given;
     }
-    o
+    result
 }
 
 // Runs a sequence of changes enacting the configuration described in the ConfState. A refused step ends it; earlier steps stay.
-pub fn restore_step_by_step(t: Tracker, cs: ConfState, next_idx: u64) -> Outcome
-    ensures { result ≡ step_by_step_of t cs next_idx }
+pub fn restore_step_by_step(t: &mut Tracker, cs: &ConfState, next_idx: u64) -> Result<(), Refusal>
+    ensures { outcome_left t.new result ≡ step_by_step_of t.old cs.now next_idx }
 {
     if t.is_malformed() {
-        return refused(t, numbers::MALFORMED, 0);
+        return Err(Refusal::Malformed);
     }
     if too_long(cs) {
-        return refused(t, numbers::LIST_TOO_LONG, 0);
+        return Err(Refusal::ListTooLong);
     }
-    if cs.voters_outgoing.len == 0 {
+    if nothing_listed(&cs.voters_outgoing) {
         return restore_single(t, cs, next_idx);
     }
     restore_joint(t, cs, next_idx)
 }
 
 // Whether one of the four lists is over 64.
-fn too_long(cs: ConfState) -> bool
-    ensures { result ≡ too_long cs }
+fn too_long(cs: &ConfState) -> bool
+    ensures { result ≡ too_long cs.now }
 {
     [
         cs.voters.len,
@@ -72,43 +69,36 @@ fn too_long(cs: ConfState) -> bool
     .any(|len| IdList::CAPACITY < *len)
 }
 
-// No outgoing: each voter, learner and staged id in list order as a `simple` of its own; the flag is ignored.
-fn restore_single(t: Tracker, cs: ConfState, next_idx: u64) -> Outcome
-    requires { tracker_well_formed t ≡ true }
-    ensures { result ≡ steps_of t next_idx (one_by_one (wanted (lists_of cs))) }
+// Whether a list has no entry.
+fn nothing_listed(list: &IdList) -> bool
+    ensures { result ≡ is_empty (entries_in list.now) }
 {
-    let voters = one_by_one(t, cs.voters, Kind::AddNode, next_idx);
-    if voters.number != numbers::ACCEPTED {
-        return voters;
-    }
-    let learners = one_by_one(voters.tracker, cs.learners, Kind::AddLearnerNode, next_idx);
-    if learners.number != numbers::ACCEPTED {
-        return learners;
-    }
-    one_by_one(
-        learners.tracker,
-        cs.learners_next,
-        Kind::AddLearnerNode,
-        next_idx,
-    )
+    list.len == 0
+}
+
+// No outgoing: each voter, learner and staged id in list order as a `simple` of its own; the flag is ignored.
+fn restore_single(t: &mut Tracker, cs: &ConfState, next_idx: u64) -> Result<(), Refusal>
+    requires { tracker_well_formed t.old ≡ true }
+    ensures { outcome_left t.new result ≡ steps_of t.old next_idx (one_by_one (wanted (lists_of cs.now))) }
+{
+    one_by_one(t, &cs.voters, Kind::AddNode, next_idx)?;
+    one_by_one(t, &cs.learners, Kind::AddLearnerNode, next_idx)?;
+    one_by_one(t, &cs.learners_next, Kind::AddLearnerNode, next_idx)
 }
 
 // If there are outgoing voters, first add them one by one so that the (non-joint) config has them all; then enter.
-fn restore_joint(t: Tracker, cs: ConfState, next_idx: u64) -> Outcome
-    requires { tracker_well_formed t ≡ true }
-    ensures { result ≡ steps_of t next_idx (joint_steps cs) }
+fn restore_joint(t: &mut Tracker, cs: &ConfState, next_idx: u64) -> Result<(), Refusal>
+    requires { tracker_well_formed t.old ≡ true }
+    ensures { outcome_left t.new result ≡ steps_of t.old next_idx (joint_steps cs.now) }
 {
-    let outgoing = one_by_one(t, cs.voters_outgoing, Kind::AddNode, next_idx);
-    if outgoing.number != numbers::ACCEPTED {
-        return outgoing;
-    }
-    enter(outgoing.tracker, cs, next_idx)
+    one_by_one(t, &cs.voters_outgoing, Kind::AddNode, next_idx)?;
+    enter(t, cs, next_idx)
 }
 
 // One `enter_joint` with the changes that lead from the outgoing voters to the rest, and the flag.
-fn enter(t: Tracker, cs: ConfState, next_idx: u64) -> Outcome
-    requires { tracker_well_formed t ≡ true }
-    ensures { result ≡ steps_of t next_idx (enter_step cs.auto_leave (entered cs) ∷ []) }
+fn enter(t: &mut Tracker, cs: &ConfState, next_idx: u64) -> Result<(), Refusal>
+    requires { tracker_well_formed t.old ≡ true }
+    ensures { outcome_left t.new result ≡ steps_of t.old next_idx (enter_step cs.now.auto_leave (entered cs.now) ∷ []) }
 {
     let incoming = to_conf_change_single(cs);
     let n = incoming.len;
@@ -117,29 +107,22 @@ fn enter(t: Tracker, cs: ConfState, next_idx: u64) -> Outcome
 }
 
 // Each id of the list as a `simple` of its own, of this kind.
-fn one_by_one(t: Tracker, list: IdList, kind: Kind, next_idx: u64) -> Outcome
-    requires { tracker_well_formed t ≡ true }
-    ensures { result ≡ steps_of t next_idx (one_by_one (all (kind_named kind) (entries_in list))) }
+fn one_by_one(t: &mut Tracker, list: &IdList, kind: Kind, next_idx: u64) -> Result<(), Refusal>
+    requires { tracker_well_formed t.old ≡ true }
+    ensures { outcome_left t.new result ≡ steps_of t.old next_idx (one_by_one (all (kind_named kind) (entries_in list.now))) }
 {
-    let mut outcome = Outcome {
-        number: numbers::ACCEPTED,
-        id: 0,
-        tracker: t,
-    };
     for id in list.ids.iter().take(list.len) {
-        outcome = step(outcome.tracker, *id, kind, next_idx);
-        if outcome.number != numbers::ACCEPTED {
-            return outcome;
-        }
+        step(t, *id, kind, next_idx)?;
     }
-    outcome
+    Ok(())
 }
 
 // One change as a `simple` of its own, applied.
-fn step(t: Tracker, id: u64, kind: Kind, next_idx: u64) -> Outcome
-    ensures { result ≡ applied_to t (simple_answer t (id ∷ []) (number_in kind ∷ [])) next_idx }
+fn step(t: &mut Tracker, id: u64, kind: Kind, next_idx: u64) -> Result<(), Refusal>
+    ensures { outcome_left t.new result ≡ applied_to t.old (simple_answer t.old (id ∷ []) (number_in kind ∷ [])) next_idx }
 {
-    apply_answer(t, simple(t, &[id], &[number_of(kind)]), next_idx)
+    let answer = simple(t, &[id], &[number_of(kind)]);
+    apply_answer(t, answer, next_idx)
 }
 
 // A kind's number in a change list.
@@ -154,19 +137,21 @@ fn number_of(kind: Kind) -> u8
 }
 
 // An accepted answer is applied at once to the state that it was asked of; a refused one leaves it.
-pub fn apply_answer(t: Tracker, a: Answer, next_idx: u64) -> Outcome
-    ensures { result ≡ applied_to t a next_idx }
+pub fn apply_answer(
+    t: &mut Tracker,
+    answer: Result<Changed, Refusal>,
+    next_idx: u64,
+) -> Result<(), Refusal>
+    ensures { outcome_left t.new result ≡ applied_to t.old (answered t.old.conf answer) next_idx }
 {
-    if a.number != numbers::ACCEPTED {
-        return refused(t, a.number, a.id);
-    }
-    applied(t, a.conf, a.log, next_idx)
+    let changed = answer?;
+    apply_conf(t, &changed.conf, &changed.log, next_idx)
 }
 
 // Translates a conf state into the operations that, when applied to the config made of the outgoing voters, represent it: remove each outgoing,
 // add each voter, add-learner each learner, then each staged.
-fn to_conf_change_single(cs: ConfState) -> Changes
-    ensures { Listed result (entered cs) }
+fn to_conf_change_single(cs: &ConfState) -> Changes
+    ensures { Listed result (entered cs.now) }
 {
     let mut list = Changes::new();
     list.append(&cs.voters_outgoing, Kind::RemoveNode);

@@ -14,4 +14,4 @@ slice_bounds-enter_joint-end-2 c = let made = c.to_conf_change_single-incoming i
     sym (length-take-le _ _ (kinds-room made.result made.type_inv made.ensures))
 
 pub returns : goal.returns
-returns c = entered_once _ c.requires c.args.cs _ _ c.to_conf_change_single-incoming.ensures c.enter_joint-answer.ensures c.apply_answer.ensures
+returns c = entered_once _ c.requires c.args.cs.now _ _ c.to_conf_change_single-incoming.ensures c.enter_joint-answer.ensures c.apply_answer.ensures
