@@ -26,12 +26,15 @@ use Rattle.comparison.proofs.Pieces.{Left, left_all}
 -- ** A list in its words
 
 module _ (ws : List ℕ) (k : ℕ) (h : k + 65 ≤ length ws) (f : length (list_in ws k) ≤ 64) where
-  -- its 64 places, as they are lent
-  list_part : take (get_or ws (k + 64) 0) (take (k + 64 - k) (drop k ws)) ≡ list_in ws k
+  -- its ids, as they are lent
+  list_part : take (k + get_or ws (k + 64) 0 - k) (drop k ws) ≡ list_in ws k
   unfolding list_in
-  list_part = take-take (get_or ws (k + 64) 0) (k + 64 - k) (drop k ws) (omega (arith, count-few ws k h f))
+  list_part = ap (λ (n : ℕ). take n (drop k ws)) (omega arith)
 
-  pub stands_in_lem : (at x : ℕ) {r : Bool} → r ≡ first_is x (drop at (take (get_or ws (k + 64) 0) (take (k + 64 - k) (drop k ws)))) → r ≡ first_is x (drop at (list_in ws k))
+  pub list-ends : k + get_or ws (k + 64) 0 ≤ length ws
+  list-ends = omega (arith, h, count-few ws k h f)
+
+  pub stands_in_lem : (at x : ℕ) {r : Bool} → r ≡ first_is x (drop at (take (k + get_or ws (k + 64) 0 - k) (drop k ws))) → r ≡ first_is x (drop at (list_in ws k))
   stands_in_lem at x e = e ∙ ap (λ (l : List ℕ). first_is x (drop at l)) list_part
 
   module _ (at : ℕ) where
