@@ -1,6 +1,5 @@
 -- `unplug::at_most` meets its contract: the loop's invariant says what is left to ask. Assumes nothing.
 use native.Mathlib.Omega.{arith}
-use borrow.Author.Rules.{rules}
 use Rattle.unplug.proofs.Within.{ask-start, ask-room, ask-stop, ask-next, ask-end}
 use Rattle.unplug.proofs.at_most.Goals as goal
 
