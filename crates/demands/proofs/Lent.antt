@@ -4,6 +4,8 @@ use Prim.Native.Nat.{ℕ}
 use mathlib.Core.Path.{◌≡◌}
 use mathlib.Core.List.{List}
 use Rattle.text.specs.Put.{Put}
+use Rattle.text.specs.Writes.{Writes}
+use Rattle.text.specs.declared.Output.{Output}
 use Rattle.text.proofs.put_byte.Reads as text-put-byte
 use Rattle.text.proofs.put_bytes.Reads as text-put-bytes
 use Rattle.text.proofs.put_decimal.Reads as text-put-decimal
@@ -47,6 +49,13 @@ SettlesWith {K} {A} {Z} {E} P held = (κs : K) (a : A κs) (z y : Z κs) (e d : 
 -- the place after a text, and the slice
 pub put-settled : {old text : List ℕ} {at : ℕ} {m n : List ℕ} {p q : ℕ} → Put old at text m p → Put old at text n q → (p ≡ q) × (m ≡ n)
 put-settled {m = m} {n = n} {p = p} {q = q} a b = (equation p q a.end b.end, equation m n a.bytes b.bytes)
+
+-- P is a contract, `held` the output that it puts a text to, at exit: of the same arguments it allows one place after the text and one slice
+abbrev pub SettlesTo : {K : Type 0} {A Z E : K → Type 0} → ((κs : K) → A κs → Z κs → E κs → Type 0) → ((κs : K) → E κs → Output) → Type 0
+SettlesTo {K} {A} {Z} {E} P held = (κs : K) (a : A κs) (z y : Z κs) (e d : E κs) → P κs a z e → P κs a y d → ((held κs e).at ≡ (held κs d).at) × ((held κs e).bytes.now ≡ (held κs d).bytes.now)
+
+writes-settled : {o p q : Output} {text : List ℕ} → Writes o text p → Writes o text q → (p.at ≡ q.at) × (p.bytes.now ≡ q.bytes.now)
+writes-settled a b = put-settled a.put b.put
 
 -- ** text
 
@@ -92,11 +101,11 @@ pub record Messages : Type 0 where
   pub put-varint : SettlesWith wire-put-varint.Learnt (λ κs e. e.0.now)
   pub read : SettlesWith confstate-read.Learnt (λ κs e. e.1.0.now)
   pub write : SettlesWith confstate-write.Learnt (λ κs e. e.1.0.now)
-  pub put-comparison : SettlesWith comparison-put.Learnt (λ κs e. e.0.now)
+  pub put-comparison : SettlesTo comparison-put.Learnt (λ κs e. e.0.now)
   pub compare : SettlesWith comparison-compare.Learnt (λ κs e. e.1.1.0.now)
 
 pub messages : Messages
-messages = search (equation, put-settled, both)
+messages = search (equation, put-settled, writes-settled, both)
 
 -- ** calls
 
