@@ -48,7 +48,7 @@ pub fn dimecandle_call(request: &[u8], reply: &mut [u8]) -> u64
     match call_in(request, reply.len()) {
         Ok(call) => {
             let mut to = Output::new(reply);
-            write::put_reply(&mut to, reply_to(request, call));
+            write::put_reply(&mut to, &reply_to(request, call));
             0
         }
         Err(why) => why.number(),
