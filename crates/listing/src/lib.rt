@@ -111,6 +111,7 @@ impl Session {
 
     // A change is added to the pending list; there is room, or the listing ended before.
     #[inline(never)]
+    #[tactic(auto, unfolding(crate::specs::Sessions::pend_in))]
     fn pend(&mut self, kind: u8, id: u64)
         ensures { self.new ≡ pend_in self.old kind id }
     {
@@ -138,6 +139,7 @@ impl Session {
     }
 
     // An accepted answer is applied; the pending list is emptied either way, and a line more is printed.
+    #[tactic(auto, unfolding(crate::specs::Sessions::applied_in))]
     fn apply(&mut self, answer: Answer, next_idx: u64)
         ensures { self.new ≡ applied_in self.old answer next_idx }
     {

@@ -14,6 +14,7 @@ use tracker::{ChangeLog, Configuration, MapChange, MapChangeType};
 
 // An accepted answer's line, or a refusal's.
 #[inline(never)]
+#[tactic(auto, unfolding(crate::specs::Sessions::answer_text))]
 pub fn put_answer(to: &mut Output, k: u64, answer: &Answer)
     ensures { Writes to.old (answer_text k answer.now) to.new }
 {
