@@ -20,7 +20,7 @@ use Rattle.rules.proofs.Check.{refuse-ok, then_left, then_right}
 use Rattle.rules.proofs.Formed.{of-whole, sets_of, whole_of}
 use Rattle.rules.proofs.Idle.{enter-few, simple-few}
 use Rattle.rules.proofs.Sets.{and_left, or_left, or_right}
-use Rattle.tracker.specs.Apply.{apply_of, id_of, number_of, outcome_of, refused_of, verdict_of}
+use Rattle.tracker.specs.Apply.{Outcome, apply_of, id_of, number_of, outcome_of, refused_of, verdict_of}
 use Rattle.tracker.specs.Bridge.{conf_of, lists_of, log_of, state_of}
 use Rattle.tracker.specs.ConfStates.{written_in, written_of}
 use Rattle.tracker.specs.Form.{conf_well_formed, log_well_formed, tracker_well_formed}
@@ -28,11 +28,9 @@ use Rattle.tracker.specs.declared.Configuration.{Configuration}
 use Rattle.tracker.specs.declared.ChangeLog.{ChangeLog}
 use Rattle.tracker.specs.declared.Tracker.{Tracker}
 use Rattle.tracker.specs.declared.ConfState.{ConfState}
-use Rattle.tracker.specs.declared.Outcome.{Outcome}
 use Rattle.tracker.proofs.Bridge.{tracker_formed}
 use Rattle.invariants.specs.Check.{check_of, in_order_of}
-use Rattle.changer.specs.Calls.{answer_of, enter_answer, if_formed, leave_answer, simple_answer}
-use Rattle.changer.specs.declared.Answer.{Answer}
+use Rattle.changer.specs.Calls.{Answer, answer_of, enter_answer, if_formed, leave_answer, simple_answer}
 use Rattle.changer.proofs.Pending.{pending-set}
 use Rattle.restore.specs.Restore.{restore_of, restoring, step_by_step_of, too_long}
 use Rattle.restore.proofs.Applied.{Fits, enter-fits, leave_fits, simple-fits}

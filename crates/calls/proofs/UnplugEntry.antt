@@ -8,7 +8,7 @@ use borrow.Author.Tests.{eq-eqb, ne_eqb, le-ltb, lt-ltb}
 use lib.ListN.{length, drop, set}
 use Rattle.changer.specs.Calls.{unplug_of}
 use Rattle.std.specs.Prelude.{Result, Ok, Err}
-use Rattle.tracker.specs.declared.Verdict.{Verdict}
+use Rattle.tracker.specs.Apply.{Verdict}
 use Rattle.unplug.specs.Unplugs.{answered_of, state_holds_in, state_in}
 use Rattle.unplug.specs.declared.Unfit.{Unfit}
 use Rattle.calls.specs.Asked.{refusal_number, same_unfit}

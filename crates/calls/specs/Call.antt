@@ -2,18 +2,14 @@
 use Rattle.std.specs.Prelude.{◌≡◌, ◌≤◌, Result, MatchResult, ℕ, Bool, false, not, cond, List, [], ◌∷◌, ◌++◌, eqb, ltb, length, take, drop}
 use Rattle.rules.specs.Apply.{no_conf_state}
 use Rattle.tracker.specs.Bridge.{change_log_of, conf_state_of}
-use Rattle.tracker.specs.Apply.{apply_of}
-use Rattle.tracker.specs.ConfStates.{written_of}
+use Rattle.tracker.specs.Apply.{Outcome, Verdict, apply_of}
+use Rattle.tracker.specs.ConfStates.{Written, written_of}
 use Rattle.tracker.specs.declared.Configuration.{Configuration}
 use Rattle.tracker.specs.declared.ChangeLog.{ChangeLog}
 use Rattle.tracker.specs.declared.Tracker.{Tracker}
 use Rattle.tracker.specs.declared.ConfState.{ConfState}
-use Rattle.tracker.specs.declared.Outcome.{Outcome}
-use Rattle.tracker.specs.declared.Verdict.{Verdict}
-use Rattle.tracker.specs.declared.Written.{Written}
 use Rattle.invariants.specs.Check.{check_of, in_order_of}
-use Rattle.changer.specs.declared.Answer.{Answer}
-use Rattle.changer.specs.Calls.{simple_answer, enter_answer, leave_answer}
+use Rattle.changer.specs.Calls.{Answer, simple_answer, enter_answer, leave_answer}
 use Rattle.restore.specs.Restore.{restore_of, step_by_step_of}
 use Rattle.unplug.specs.Words.{flag}
 use Rattle.calls.specs.Layout.{word, conf_at, state_at, log_at, conf_state_at, change_list_at, holds}

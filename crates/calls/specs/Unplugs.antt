@@ -1,7 +1,9 @@
 -- Whether a box can be unplugged, as the entry answers it: docs/EMBEDDING.md. Assumes nothing.
-use Rattle.std.specs.Prelude.{◌≡◌, ◌≤◌, Result, MatchResult, ℕ, not, cond, List, ◌∷◌, eqb, ltb, length, drop}
+use Rattle.std.specs.Prelude.{◌≡◌, ◌≤◌, Result, MatchResult, Ok, Err, ℕ, not, cond, List, ◌∷◌, eqb, ltb, length, drop}
 use Rattle.changer.specs.Calls.{unplug_of}
-use Rattle.tracker.specs.declared.Verdict.{Verdict}
+use Rattle.tracker.specs.Apply.{Verdict, verdict_of}
+use Rattle.tracker.specs.Refusals.{said}
+use Rattle.tracker.specs.declared.refusal.Refusal.{Refusal}
 use Rattle.calls.specs.Asked.{refusal_number}
 use Rattle.calls.specs.declared.asked.Unanswered.{Unanswered}
 use Rattle.unplug.specs.Unplugs.{state_holds_in, state_in}
@@ -20,3 +22,8 @@ unplug_leaves ws x out = cond (eqb (unplug_answer ws (length out)) 0) ((unplug_o
 -- the number and id, where they are told; else why not
 abbrev pub Unplugs : List ℕ → ℕ → ℕ → Result Verdict Unanswered → Type 0
 Unplugs ws x room r = MatchResult r (λ v. (unplug_answer ws room ≡ 0) × (v ≡ unplug_of (state_in ws) x) × (2 ≤ room)) (λ e. unplug_answer ws room ≡ refusal_number e)
+
+-- number and id of an answer
+abbrev pub told : {A : Type 0} → Result (Result A Refusal) Unanswered → Result Verdict Unanswered
+told (Ok r) = Ok (verdict_of (said r))
+told (Err e) = Err e

@@ -2,23 +2,26 @@
 // This is how another language embeds the library, and how it is compared with the Rust.
 #![tactic(auto)]
 
-ghost use Rattle.std.specs.Prelude.{◌≡◌, length};
+ghost use Rattle.std.specs.Prelude.{◌≡◌, false, length};
+ghost use Rattle.tracker.specs.Apply.{id_of, number_of, outcome_left};
 ghost use Rattle.tracker.specs.ConfStates.{written_of};
+ghost use Rattle.tracker.specs.Refusals.{id_at, number_at, said};
 ghost use Rattle.confstate.specs.Entries.{read_answer, read_leaves, write_answer, write_leaves};
 ghost use Rattle.comparison.specs.Compare.{compare_answer, compare_leaves};
-ghost use Rattle.changer.specs.Calls.{simple_answer, enter_answer};
-ghost use Rattle.restore.specs.Restore.{restore_of, step_by_step_of};
+ghost use Rattle.changer.specs.Calls.{answered, simple_answer, enter_answer};
 ghost use Rattle.unplug.specs.Words.{flag};
-ghost use Rattle.calls.specs.Layout.{word, state_at, conf_state_at};
-ghost use Rattle.calls.specs.Call.{from_verdict, from_answer, from_outcome, from_written, reply as reply_of, no_log, no_lists, ids_in, kinds_in, reply_for, Asks, call_answer, call_leaves};
-ghost use Rattle.calls.specs.Unplugs.{Unplugs, unplug_answer, unplug_leaves};
+ghost use Rattle.calls.specs.Layout.{word};
+ghost use Rattle.calls.specs.Call.{from_answer, from_outcome, from_written, reply as reply_of, no_log, no_lists, ids_in, kinds_in, reply_for, Asks, call_answer, call_leaves};
+ghost use Rattle.calls.specs.Unplugs.{Unplugs, told, unplug_answer, unplug_leaves};
 
 use crate::asked::{Call, Unanswered};
 use crate::places::{AUTO_LEAVE, CALL, NEXT_IDX, REPLY, REQUEST};
-use changer::Answer;
+use changer::Changed;
+use restore::{restore, restore_step_by_step};
 use text::Output;
-use tracker::apply::applied;
-use tracker::{ChangeLog, ConfState, Outcome, Tracker, Verdict};
+use tracker::apply::apply_conf;
+use tracker::refusal::Refusal;
+use tracker::{ChangeLog, ConfState, Tracker};
 
 mod asked; // which call, and why it is not answered
 mod places; // the places in a request
@@ -45,7 +48,7 @@ pub fn dimecandle_call(request: &[u8], reply: &mut [u8]) -> u64
     match call_in(request, reply.len()) {
         Ok(call) => {
             let mut to = Output::new(reply);
-            write::put_reply(&mut to, reply_to(request, call));
+            write::put_reply(&mut to, &reply_to(request, call));
             0
         }
         Err(why) => why.number(),
@@ -75,18 +78,19 @@ pub fn dimecandle_unplug(state: &[u64], id: u64, verdict: &mut [u64]) -> u64
     ensures { (result ≡ unplug_answer state.now (length verdict.old)) × (verdict.new ≡ unplug_leaves state.now id verdict.old) }
 {
     match unplugged(state, id, verdict.len()) {
-        Ok(told) => {
-            verdict[0] = told.number;
-            verdict[1] = told.id;
+        Ok(answer) => {
+            let (number, named) = number_and_id(answer);
+            verdict[0] = number;
+            verdict[1] = named;
             0
         }
         Err(why) => why.number(),
     }
 }
 
-// The number and id, where a verdict has `room`.
-fn unplugged(state: &[u64], id: u64, room: usize) -> Result<Verdict, Unanswered>
-    ensures { Unplugs state.now id room result }
+// Whether the box can be unplugged, where a verdict has `room`.
+fn unplugged(state: &[u64], id: u64, room: usize) -> Result<Result<(), Refusal>, Unanswered>
+    ensures { Unplugs state.now id room (told result) }
 {
     if state.len() != unplug::layout::WORDS {
         return Err(Unanswered::Length);
@@ -121,108 +125,132 @@ pub fn dimecandle_compare(first: &[u8], second: &[u8], out: &mut [u8]) -> u64
     comparison::compare(first, second, out)
 }
 
+// The paper's number of a refusal, and the id that it names; else zeros.
+fn number_and_id(answer: Result<(), Refusal>) -> (u64, u64)
+    ensures { result ≡ (number_of (said answer), id_of (said answer)) }
+{
+    match answer {
+        Ok(()) => (0, 0),
+        Err(refusal) => (refusal.number(), refusal.id()),
+    }
+}
+
 // What `call` answers to a request.
 fn reply_to(s: &[u8], call: Call) -> Reply
     ensures { result ≡ reply_for s.now call }
 {
-    let t = read::state(s);
+    let mut t = read::state(s);
     match call {
-        Call::Check => from_verdict(t, invariants::check(t)),
-        Call::InOrder => from_yes(t, invariants::in_order(t)),
-        Call::Simple => from_answer(t, simple(s, t)),
-        Call::EnterJoint => from_answer(t, enter_joint(s, t)),
-        Call::LeaveJoint => from_answer(t, changer::leave_joint(t)),
-        Call::ApplyConf => from_outcome(applied(
-            t,
-            read::conf(s),
-            read::log(s),
-            read::word(s, NEXT_IDX),
-        )),
-        Call::ToConfState => from_written(t),
-        Call::Restore => from_outcome(restored(s)),
-        Call::RestoreStepByStep => from_outcome(restored_step_by_step(s)),
+        Call::Check => from_outcome(invariants::check(&t), &t),
+        Call::InOrder => from_yes(invariants::in_order(&t), &t),
+        Call::Simple => from_answer(simple(s, &t), &t),
+        Call::EnterJoint => from_answer(enter_joint(s, &t), &t),
+        Call::LeaveJoint => from_answer(changer::leave_joint(&t), &t),
+        Call::ApplyConf => {
+            let answer = apply_conf(
+                &mut t,
+                &read::conf(s),
+                &read::log(s),
+                read::word(s, NEXT_IDX),
+            );
+            from_outcome(answer, &t)
+        }
+        Call::ToConfState => from_written(&t),
+        Call::Restore => {
+            let answer = restore(&mut t, &read::conf_state(s), read::word(s, NEXT_IDX));
+            from_outcome(answer, &t)
+        }
+        Call::RestoreStepByStep => {
+            let answer = restore_step_by_step(
+                &mut t,
+                &read::conf_state(s),
+                read::word(s, NEXT_IDX),
+            );
+            from_outcome(answer, &t)
+        }
     }
 }
 
-fn simple(s: &[u8], t: Tracker) -> Answer
-    ensures { result ≡ simple_answer t (ids_in s.now) (kinds_in s.now) }
+fn simple(s: &[u8], t: &Tracker) -> Result<Changed, Refusal>
+    ensures { answered t.now.conf result ≡ simple_answer t.now (ids_in s.now) (kinds_in s.now) }
 {
     let list = read::change_list(s);
     changer::simple(t, list.ids(), list.kinds())
 }
 
-fn enter_joint(s: &[u8], t: Tracker) -> Answer
-    ensures { result ≡ enter_answer t (flag (word s.now 968)) (ids_in s.now) (kinds_in s.now) }
+fn enter_joint(s: &[u8], t: &Tracker) -> Result<Changed, Refusal>
+    ensures { answered t.now.conf result ≡ enter_answer t.now (flag (word s.now 968)) (ids_in s.now) (kinds_in s.now) }
 {
     let list = read::change_list(s);
     changer::enter_joint(t, read::word(s, AUTO_LEAVE) == 1, list.ids(), list.kinds())
 }
 
-// The state given is read again rather than kept: that saves stack.
-fn restored(s: &[u8]) -> Outcome
-    ensures { result ≡ restore_of (state_at s.now 1) (conf_state_at s.now 2266) (word s.now 969) }
+// The state as it is after the call, and why the call is refused, where it is.
+fn from_outcome(answer: Result<(), Refusal>, t: &Tracker) -> Reply
+    ensures { result ≡ from_outcome (outcome_left t.now answer) }
 {
-    let o = restored_step_by_step(s);
-    restore::whole(read::state(s), o)
+    match answer {
+        Ok(()) => accepted(t),
+        Err(refusal) => refused(refusal, t),
+    }
 }
 
-fn restored_step_by_step(s: &[u8]) -> Outcome
-    ensures { result ≡ step_by_step_of (state_at s.now 1) (conf_state_at s.now 2266) (word s.now 969) }
+fn from_yes(yes: bool, t: &Tracker) -> Reply
+    ensures { result ≡ reply_of 0 0 yes t.now no_log no_lists 0 }
 {
-    restore::restore_step_by_step(read::state(s), read::conf_state(s), read::word(s, NEXT_IDX))
+    Reply { yes, ..accepted(t) }
 }
 
-fn from_verdict(t: Tracker, v: Verdict) -> Reply
-    ensures { result ≡ from_verdict t v }
+// The state given, with the answered configuration.
+fn from_answer(answer: Result<Changed, Refusal>, t: &Tracker) -> Reply
+    ensures { result ≡ from_answer t.now (answered t.now.conf answer) }
 {
-    reply_of(v.number, v.id, false, t)
+    match answer {
+        Ok(Changed { conf, log, idle }) => {
+            let tracker = Tracker { conf, ..*t };
+            Reply {
+                log,
+                idle,
+                ..accepted(&tracker)
+            }
+        }
+        Err(refusal) => refused(refusal, t),
+    }
 }
 
-fn from_yes(t: Tracker, yes: bool) -> Reply
-    ensures { result ≡ reply_of 0 0 yes t no_log no_lists 0 }
+fn from_written(t: &Tracker) -> Reply
+    ensures { result ≡ from_written t.now (written_of t.now) }
 {
-    reply_of(0, 0, yes, t)
+    match t.to_conf_state() {
+        Ok(conf_state) => Reply {
+            conf_state,
+            ..accepted(t)
+        },
+        Err(refusal) => refused(refusal, t),
+    }
 }
 
-// Of the answers that give neither log nor lists.
-fn reply_of(number: u64, id: u64, yes: bool, t: Tracker) -> Reply
-    ensures { result ≡ reply_of number id yes t no_log no_lists 0 }
+// No refusal, and neither log nor lists.
+fn accepted(t: &Tracker) -> Reply
+    ensures { result ≡ reply_of 0 0 false t.now no_log no_lists 0 }
 {
     Reply {
-        number,
-        id,
-        yes,
-        tracker: t,
+        number: 0,
+        id: 0,
+        yes: false,
+        tracker: *t,
         log: ChangeLog::new(),
         conf_state: ConfState::new(),
         idle: 0,
     }
 }
 
-// The state given, with the answered configuration.
-fn from_answer(t: Tracker, a: Answer) -> Reply
-    ensures { result ≡ from_answer t a }
+fn refused(refusal: Refusal, t: &Tracker) -> Reply
+    ensures { result ≡ reply_of (number_at refusal) (id_at refusal) false t.now no_log no_lists 0 }
 {
-    let tracker = Tracker { conf: a.conf, ..t };
     Reply {
-        log: a.log,
-        idle: a.idle,
-        ..reply_of(a.number, a.id, false, tracker)
-    }
-}
-
-fn from_outcome(o: Outcome) -> Reply
-    ensures { result ≡ from_outcome o }
-{
-    reply_of(o.number, o.id, false, o.tracker)
-}
-
-fn from_written(t: Tracker) -> Reply
-    ensures { result ≡ from_written t (written_of t) }
-{
-    let w = t.to_conf_state();
-    Reply {
-        conf_state: w.conf_state,
-        ..reply_of(w.number, w.id, false, t)
+        number: refusal.number(),
+        id: refusal.id(),
+        ..accepted(t)
     }
 }

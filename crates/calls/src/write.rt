@@ -11,15 +11,15 @@ use text::Output;
 use tracker::{ChangeLog, ConfState, Configuration, MapChange, MapChangeType, Tracker};
 
 // The whole reply, as far as the output goes.
-pub fn put_reply(to: &mut Output, r: Reply)
-    ensures { Writes to.old (all_bytes (reply_words r)) to.new }
+pub fn put_reply(to: &mut Output, r: &Reply)
+    ensures { Writes to.old (all_bytes (reply_words r.now)) to.new }
 {
     put_word(to, r.number);
     put_word(to, r.id);
     put_flag(to, r.yes);
-    put_state(to, r.tracker);
-    put_log(to, r.log);
-    put_conf_state(to, r.conf_state);
+    put_state(to, &r.tracker);
+    put_log(to, &r.log);
+    put_conf_state(to, &r.conf_state);
     put_word(to, r.idle as u64);
 }
 
@@ -63,8 +63,8 @@ fn put_ids(to: &mut Output, ids: &[u64], len: usize)
     put_word(to, len as u64);
 }
 
-fn put_conf(to: &mut Output, conf: Configuration)
-    ensures { Writes to.old (all_bytes (conf_words conf)) to.new }
+fn put_conf(to: &mut Output, conf: &Configuration)
+    ensures { Writes to.old (all_bytes (conf_words conf.now)) to.new }
 {
     put_ids(to, &conf.incoming.ids, conf.incoming.len);
     put_ids(to, &conf.outgoing.ids, conf.outgoing.len);
@@ -73,10 +73,10 @@ fn put_conf(to: &mut Output, conf: Configuration)
     put_flag(to, conf.auto_leave);
 }
 
-fn put_state(to: &mut Output, t: Tracker)
-    ensures { Writes to.old (all_bytes (state_words t)) to.new }
+fn put_state(to: &mut Output, t: &Tracker)
+    ensures { Writes to.old (all_bytes (state_words t.now)) to.new }
 {
-    put_conf(to, t.conf);
+    put_conf(to, &t.conf);
     put_ids(to, &t.ids.ids, t.ids.len);
     put_each(to, &t.records, put_record);
     put_word(to, t.max_inflight);
@@ -112,8 +112,8 @@ fn state_word(s: ProgressState) -> u64
     }
 }
 
-fn put_log(to: &mut Output, log: ChangeLog)
-    ensures { Writes to.old (all_bytes (log_words log)) to.new }
+fn put_log(to: &mut Output, log: &ChangeLog)
+    ensures { Writes to.old (all_bytes (log_words log.now)) to.new }
 {
     put_each(to, &log.entries, put_entry);
     put_word(to, log.count as u64);
@@ -136,8 +136,8 @@ fn kind_word(k: MapChangeType) -> u64
     }
 }
 
-fn put_conf_state(to: &mut Output, cs: ConfState)
-    ensures { Writes to.old (all_bytes (conf_state_words cs)) to.new }
+fn put_conf_state(to: &mut Output, cs: &ConfState)
+    ensures { Writes to.old (all_bytes (conf_state_words cs.now)) to.new }
 {
     put_ids(to, &cs.voters.ids, cs.voters.len);
     put_ids(to, &cs.learners.ids, cs.learners.len);

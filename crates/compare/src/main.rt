@@ -13,6 +13,7 @@ use std::io;
 use std::io::{Error, ErrorKind, Write};
 use std::rt::Files;
 use streams::{Unread, Unwritten};
+use text::Output;
 
 // A file is read one byte further than it may be long.
 const ROOM: usize = comparison::MAX_FILE + 1;
@@ -93,10 +94,11 @@ fn named(rt: &impl Env, i: usize, then: &[u8], out: &mut [u8]) -> usize
 {
     let mut name = [0u8; MAX_NAME];
     let n = rt.arg(i, &mut name).unwrap_or(0);
-    let p = text::put_bytes(out, 0, b"compare: ");
-    let q = text::put_bytes(out, p, &name[..n]);
-    let end = text::put_bytes(out, q, then);
-    end.min(out.len())
+    let mut to = Output::new(out);
+    to.put_bytes(b"compare: ");
+    to.put_bytes(&name[..n]);
+    to.put_bytes(then);
+    to.at.min(to.bytes.len())
 }
 
 // Prints what two files give, and says which of them is refused. No text is longer than LONGEST (`comparison-size`,
@@ -112,7 +114,9 @@ fn show<W: Write, E: Write>(
     ensures { OnOk result (Appends (W.contents out.old) (W.contents out.new) (comparison readable first.now second.now)) }
 {
     let mut text = [0u8; comparison::LONGEST];
-    let n = comparison::put_comparison(&mut text, 0, readable, first, second);
+    let mut to = Output::new(&mut text);
+    comparison::put_comparison(&mut to, readable, first, second);
+    let n = to.at;
     let printed = streams::write_output(out, &text[..n], b"compare: standard output", errors);
     if readable {
         explain(rt, first, second, errors);

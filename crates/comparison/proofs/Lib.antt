@@ -7,6 +7,7 @@ pub mod Size
 pub mod Firsts
 pub mod Walking
 pub mod ListWords
+pub mod Pieces
 pub mod Places
 pub mod Lines
 pub mod Ordering

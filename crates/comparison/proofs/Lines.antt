@@ -1,13 +1,16 @@
 -- Laws of the lines' text. Assumes nothing.
 use Prim.Native.Nat.{ℕ}
-use mathlib.Core.Path.{◌≡◌, refl, ap, sym, ◌∙◌}
-use mathlib.Core.Bool.{Bool, true, false, beq, ◌&&◌, ◌||◌, cond}
+use mathlib.Core.Path.{◌≡◌, refl, ap, sym, subst, ◌∙◌}
+use mathlib.Core.Bool.{Bool, true, false, beq, ◌&&◌, ◌||◌, cond, not}
 use mathlib.Core.List.{List, [], ◌++◌}
 use Rattle.text.specs.Text.{each, ascii}
+use Rattle.text.specs.Writes.{Writes}
+use Rattle.text.specs.declared.Output.{Output}
 use Rattle.comparison.specs.Compare.{same, standing_text, line, line_if, flag_line}
 use Rattle.comparison.specs.Told.{sets}
 use Rattle.comparison.specs.Steps.{name_text}
 use Rattle.comparison.specs.declared.line.Standing.{Standing}
+use Rattle.comparison.proofs.Pieces.{Left, left_put}
 
 -- ** Tests, one after the other
 
@@ -17,20 +20,18 @@ or_then a b h e = rw h (e ∙ h)
 pub or_else : (a b : Bool) {r : Bool} → a ≡ false → r ≡ b → r ≡ (a || b)
 or_else a b h e = rw h e
 
+pub and_then : (a b : Bool) {r : Bool} → a ≡ true → r ≡ b → r ≡ a && b
+and_then a b h e = rw h e
+
+pub and_else : (a b : Bool) {r : Bool} → a ≡ false → r ≡ a → r ≡ a && b
+and_else a b h e = rw h (e ∙ h)
+
 -- ** The names of the sets
 
-module _ (is-in later : Bool) (name : List ℕ) where
-  pub name_none : is-in ≡ false → name_text is-in later name ≡ []
-  unfolding name_text
-  name_none h = rw h
-
-  pub name_later : is-in ≡ true → later ≡ true → name_text is-in later name ≡ ascii "+" ++ name
-  unfolding name_text
-  name_later h k = rw (h, k)
-
-  pub name_first : is-in ≡ true → later ≡ false → name_text is-in later name ≡ name
-  unfolding name_text
-  name_first h k = rw (h, k)
+pub name_pieces : (is-in later : Bool) (name : List ℕ) → cond (is-in && later) (ascii "+") [] ++ cond is-in name [] ≡ name_text is-in later name
+unfolding name_text
+name_pieces true later name = refl
+name_pieces false later name = refl
 
 -- the names, each where the id is in the set, and after a `+` where it is in one before
 abbrev pub names_of : Standing → Bool → Bool → List ℕ
@@ -89,6 +90,14 @@ module _ (s : Standing) {third fourth any : Bool} (f : third ≡ (s.voters || s.
 abbrev equal : Standing → Standing → Bool
 equal s t = beq s.voters t.voters && (beq s.outgoing t.outgoing && (beq s.learners t.learners && beq s.next t.next))
 
+not-true : (b : Bool) → not b ≡ true → b ≡ false
+not-true false h = refl
+not-true true h = cc
+
+not-false : (b : Bool) → not b ≡ false → b ≡ true
+not-false true h = refl
+not-false false h = cc
+
 equal_same : (s t : Standing) → same s t ≡ equal s t
 equal_same s t = go (beq s.voters t.voters) (beq s.outgoing t.outgoing) (beq s.learners t.learners) (beq s.next t.next)
   where
@@ -97,32 +106,27 @@ equal_same s t = go (beq s.voters t.voters) (beq s.outgoing t.outgoing) (beq s.l
     go true false c d = refl
     go false b c d = refl
 
-module _ (x : ℕ) (s t : Standing) {r : Bool} (h : r ≡ equal s t) where
-  pub line_none : r ≡ true → line_if x s t ≡ []
+module _ (x : ℕ) (s t : Standing) {r : Bool} (h : r ≡ not (equal s t)) where
+  line-some : r ≡ true → line_if x s t ≡ line x s t
   unfolding line_if
-  line_none e = ap (λ (y : Bool). cond y [] (line x s t)) (equal_same s t ∙ (sym h ∙ e))
+  line-some e = ap (λ (y : Bool). cond y [] (line x s t)) (equal_same s t ∙ not-true (equal s t) (sym h ∙ e))
 
-  pub line-some : r ≡ false → line_if x s t ≡ line x s t
+  line_none : r ≡ false → line_if x s t ≡ []
   unfolding line_if
-  line-some e = ap (λ (y : Bool). cond y [] (line x s t)) (equal_same s t ∙ (sym h ∙ e))
+  line_none e = ap (λ (y : Bool). cond y [] (line x s t)) (equal_same s t ∙ not-false (equal s t) (sym h ∙ e))
+
+  module _ {o p : Output} {text rest : List ℕ} (l : Left o text p (line_if x s t ++ rest)) where
+    pub line_put : r ≡ true → {q : Output} → Writes p (line x s t) q → Left o text q rest
+    line_put e f = left_put (subst (λ (y : List ℕ). Left o text p (y ++ rest)) (line-some e) l) f
+
+    pub line_skipped : r ≡ false → Left o text p rest
+    line_skipped e = subst (λ (y : List ℕ). Left o text p (y ++ rest)) (line_none e) l
 
 -- ** The line of the flag
 
-pub flag_same : (a b : Bool) → beq a b ≡ true → flag_line a b ≡ []
+pub flag_pieces : (a b : Bool) → cond (b && not a) (ascii "auto_leave false -> true\n") [] ++ cond (a && not b) (ascii "auto_leave true -> false\n") [] ≡ flag_line a b
 unfolding flag_line
-flag_same true true h = refl
-flag_same true false h = cc
-flag_same false true h = cc
-flag_same false false h = refl
-
-pub flag-set : (a b : Bool) → beq a b ≡ false → b ≡ true → flag_line a b ≡ ascii "auto_leave false -> true\n"
-unfolding flag_line
-flag-set true true h k = cc
-flag-set a false h k = cc
-flag-set false true h k = refl
-
-pub flag_cleared : (a b : Bool) → beq a b ≡ false → b ≡ false → flag_line a b ≡ ascii "auto_leave true -> false\n"
-unfolding flag_line
-flag_cleared true false h k = refl
-flag_cleared a true h k = cc
-flag_cleared false false h k = cc
+flag_pieces true true = refl
+flag_pieces true false = refl
+flag_pieces false true = refl
+flag_pieces false false = refl

@@ -4,33 +4,37 @@ use Rattle.std.specs.Prelude.{Option, Some, None}
 use Rattle.std.specs.Int.{from_bool}
 use mathlib.Core.Path.{◌≡◌, refl, ap, sym, subst, ◌∙◌}
 use mathlib.Core.Bool.{Bool, true, false, cond, false≢true}
-use mathlib.Core.List.{List, [], ◌∷◌, ◌++◌}
+use mathlib.Core.List.{List, [], ◌∷◌, ◌++◌, append_assoc}
 use native.Mathlib.Omega.{arith}
 use lib.Dec.{eqb}
 use lib.ListN.{length, take, drop, get_or, length-drop}
 use lib.Seq.{take-take, get_or-drop, drop-drop}
-use Rattle.rules.specs.State.{ConfState}
-use Rattle.text.specs.Put.{Put, last}
-use Rattle.text.proofs.Laws.{Rest, rest_all, rest-length, rest_put, rest_none}
+use Rattle.text.specs.Put.{last}
+use Rattle.text.specs.Writes.{Writes}
+use Rattle.text.specs.declared.Output.{Output}
 use Rattle.idset.specs.Places.{first_is}
 use Rattle.idset.proofs.Part.{part_cons, part_end}
 use Rattle.confstate.specs.Words.{list_in, message_in}
-use Rattle.comparison.specs.Compare.{line_if, id_lines}
+use Rattle.comparison.specs.Compare.{line_if, id_lines, flag_line, lines}
 use Rattle.comparison.specs.Steps.{Lists, Sorted, Ascending, begin, left_of, lesser_of, next_of, firsts_of, one_of, past_of, Within}
 use Rattle.comparison.specs.declared.line.Standing.{Standing}
 use Rattle.comparison.specs.declared.walk.Places.{Places}
 use Rattle.comparison.proofs.Walking.{past_first, past_id, size, past-sorted, none_left, one_more_lem, one_stands}
 use Rattle.comparison.proofs.ListWords.{count-few}
+use Rattle.comparison.proofs.Pieces.{Left, left_all}
 
 -- ** A list in its words
 
 module _ (ws : List ℕ) (k : ℕ) (h : k + 65 ≤ length ws) (f : length (list_in ws k) ≤ 64) where
-  -- its 64 places, as they are lent
-  list_part : take (get_or ws (k + 64) 0) (take (k + 64 - k) (drop k ws)) ≡ list_in ws k
+  -- its ids, as they are lent
+  list_part : take (k + get_or ws (k + 64) 0 - k) (drop k ws) ≡ list_in ws k
   unfolding list_in
-  list_part = take-take (get_or ws (k + 64) 0) (k + 64 - k) (drop k ws) (omega (arith, count-few ws k h f))
+  list_part = ap (λ (n : ℕ). take n (drop k ws)) (omega arith)
 
-  pub stands_in_lem : (at x : ℕ) {r : Bool} → r ≡ first_is x (drop at (take (get_or ws (k + 64) 0) (take (k + 64 - k) (drop k ws)))) → r ≡ first_is x (drop at (list_in ws k))
+  pub list-ends : k + get_or ws (k + 64) 0 ≤ length ws
+  list-ends = omega (arith, h, count-few ws k h f)
+
+  pub stands_in_lem : (at x : ℕ) {r : Bool} → r ≡ first_is x (drop at (take (k + get_or ws (k + 64) 0 - k) (drop k ws))) → r ≡ first_is x (drop at (list_in ws k))
   stands_in_lem at x e = e ∙ ap (λ (l : List ℕ). first_is x (drop at l)) list_part
 
   module _ (at : ℕ) where
@@ -128,9 +132,12 @@ past-within ws p x l w =
 
 -- ** The loop over the ids
 
--- the lines of what is left from i and j on are all that is left to put
-pub record Walked (a b old : List ℕ) (at : ℕ) (out : List ℕ) (end : ℕ) (i j : Places) : Type 0 where
-  pub lines : Rest old at (id_lines (message_in a) (message_in b)) out end (id_lines (left_of a i) (left_of b j))
+-- the lines that are left to be put: those of what is left from i and j on, and the flag's
+abbrev lines_left : List ℕ → List ℕ → Places → Places → List ℕ
+lines_left a b i j = id_lines (left_of a i) (left_of b j) ++ flag_line (message_in a).auto_leave (message_in b).auto_leave
+
+pub record Walked (a b : List ℕ) (old now : Output) (i j : Places) : Type 0 where
+  pub lines : Left old (lines (message_in a) (message_in b)) now (lines_left a b i j)
   pub first : Sorted (left_of a i)
   pub second : Sorted (left_of b j)
   pub first-place : Within i
@@ -143,26 +150,25 @@ left a b i j = size (left_of a i) + size (left_of b j)
 begin-within : Within begin
 begin-within = record { voters = omega arith; outgoing = omega arith; learners = omega arith; next = omega arith }
 
-pub walk_start : {a b old : List ℕ} {at : ℕ} {i j : Places} → length old ≤ last → at ≤ last → Ascending a → Ascending b → i ≡ begin → j ≡ begin → Walked a b old at old at i j
-walk_start {a} {b} {old} {at} {i} {j} h k f g p q =
+pub walk_start : {a b : List ℕ} {o : Output} {i j : Places} → length o.bytes.now ≤ last → Ascending a → Ascending b → i ≡ begin → j ≡ begin → Walked a b o o i j
+unfolding lines
+walk_start {a} {b} {o} {i} {j} h f g p q =
     let u : left_of a i ≡ message_in a = ap (left_of a) p ∙ left-all a in
     let v : left_of b j ≡ message_in b = ap (left_of b) q ∙ left-all b in
     record {
-      lines = subst (λ (m : ConfState). Rest old at (id_lines (message_in a) (message_in b)) old at (id_lines m (left_of b j))) (sym u)
-          (subst (λ (m : ConfState). Rest old at (id_lines (message_in a) (message_in b)) old at (id_lines (message_in a) m)) (sym v) (rest_all h k));
+      lines = rw (u, v) (left_all h);
       first = subst Sorted (sym u) f.sorted;
       second = subst Sorted (sym v) g.sorted;
       first-place = subst Within (sym p) begin-within;
       second-place = subst Within (sym q) begin-within;
     }
 
-module _ {a b old : List ℕ} {at : ℕ} {out : List ℕ} {end : ℕ} {i j : Places} (w : Walked a b old at out end i j) where
-  pub walk_length : length out ≡ length old
-  walk_length = rest-length w.lines
+module _ {a b : List ℕ} {o out : Output} {i j : Places} (w : Walked a b o out i j) where
+  abbrev flag : List ℕ
+  flag = flag_line (message_in a).auto_leave (message_in b).auto_leave
 
-  pub walk_end : next_of (left_of a i) (left_of b j) ≡ None → Put old at (id_lines (message_in a) (message_in b)) out end
-  walk_end none =
-      rest_none (subst (Rest old at (id_lines (message_in a) (message_in b)) out end) (none_left (left_of a i) (left_of b j) none) w.lines)
+  pub walk_end : next_of (left_of a i) (left_of b j) ≡ None → {new : Output} → Writes out flag new → Writes o (lines (message_in a) (message_in b)) new
+  walk_end none f = w.lines.after (rw (none_left (left_of a i) (left_of b j) none) f)
 
   -- the id that was met stands in these sets, and the walk goes past it
   module _ {x : ℕ} (met : next_of (left_of a i) (left_of b j) ≡ Some x) {s t : Standing} (f : s ≡ firsts_of (left_of a i) x) (g : t ≡ firsts_of (left_of b j) x) {k l : Places} (p : k ≡ past_of i s) (q : l ≡ past_of j t) where
@@ -175,13 +181,16 @@ module _ {a b old : List ℕ} {at : ℕ} {out : List ℕ} {end : ℕ} {i j : Pla
     pub walk_less : left a b k l < left a b i j
     walk_less = rw (first-left, second-left) (one_stands (left_of a i) (left_of b j) x met)
 
-    more : id_lines (left_of a i) (left_of b j) ≡ line_if x s t ++ id_lines (left_of a k) (left_of b l)
-    more = rw (first-left, second-left, f, g) (one_more_lem (left_of a i) (left_of b j) w.first w.second x met)
+    one_more : id_lines (left_of a i) (left_of b j) ≡ line_if x s t ++ id_lines (left_of a k) (left_of b l)
+    one_more = rw (first-left, second-left, f, g) (one_more_lem (left_of a i) (left_of b j) w.first w.second x met)
 
-    pub walk_turn : Lists a → Lists b → {new : List ℕ} {r : ℕ} → Put out end (line_if x s t) new r → Walked a b old at new r k l
-    walk_turn y z h =
+    more : lines_left a b i j ≡ line_if x s t ++ lines_left a b k l
+    more = ap (λ (m : List ℕ). m ++ flag) one_more ∙ append_assoc (line_if x s t) (id_lines (left_of a k) (left_of b l)) flag
+
+    pub walk_turn : Lists a → Lists b → {new : Output} → ((text rest : List ℕ) → Left o text out (line_if x s t ++ rest) → Left o text new rest) → Walked a b o new k l
+    walk_turn y z put =
         record {
-          lines = rest_put (subst (Rest old at (id_lines (message_in a) (message_in b)) out end) more w.lines) h;
+          lines = put (lines (message_in a) (message_in b)) (lines_left a b k l) (subst (Left o (lines (message_in a) (message_in b)) out) more w.lines);
           first = subst Sorted (sym first-left) (past-sorted x (left_of a i) w.first);
           second = subst Sorted (sym second-left) (past-sorted x (left_of b j) w.second);
           first-place = subst Within (sym (p ∙ ap (past_of i) f)) (past-within a i x y w.first-place);

@@ -3,9 +3,9 @@
 #![tactic(auto)]
 
 ghost use Rattle.std.specs.Prelude.{◌≡◌, leb, length};
-ghost use Rattle.text.specs.Put.{Put};
+ghost use Rattle.text.specs.Writes.{Writes};
 ghost use Rattle.confstate.specs.Words.{message_in};
-ghost use Rattle.comparison.specs.Compare.{id_lines, lines, refused_text, comparison, compare_answer, compare_leaves};
+ghost use Rattle.comparison.specs.Compare.{lines, refused_text, comparison, compare_answer, compare_leaves};
 ghost use Rattle.comparison.specs.Steps.{Ascending, SetsRead, BothRead, number_of, told_by, answered};
 
 mod refusal; // why there are no lines
@@ -14,6 +14,7 @@ mod walk; // the ids of both messages, one after the other
 mod line; // the text of a line
 
 use refusal::Refusal;
+use text::Output;
 use walk::Walk;
 
 // The most bytes that a file has.
@@ -25,22 +26,15 @@ pub const LONGEST: usize = 20761;
 // What `compare` answers more than a refusal's number.
 const REFUSED: u64 = 4294967296;
 
-// What is printed of two files, `readable` saying whether both could be read: `refused N`, or the lines. As far as `out` goes from `at` on; the place
-// where it ends comes back.
-pub fn put_comparison(
-    out: &mut [u8],
-    at: usize,
-    readable: bool,
-    first: &[u8],
-    second: &[u8],
-) -> usize
-    ensures { Put out.old at (comparison readable first.now second.now) out.new result }
+// What is printed of two files, `readable` saying whether both could be read: `refused N`, or the lines.
+pub fn put_comparison(to: &mut Output, readable: bool, first: &[u8], second: &[u8])
+    ensures { Writes to.old (comparison readable first.now second.now) to.new }
 {
     let mut a = [0u64; confstate::WORDS];
     let mut b = [0u64; confstate::WORDS];
     match read_both(readable, first, second, &mut a, &mut b) {
-        Ok(()) => put_lines(out, at, &a, &b),
-        Err(refusal) => put_refused(out, at, refusal),
+        Ok(()) => put_lines(to, &a, &b),
+        Err(refusal) => put_refused(to, refusal),
     }
 }
 
@@ -65,7 +59,9 @@ fn put_compared(first: &[u8], second: &[u8], out: &mut [u8]) -> Result<usize, Re
     if !have_room(&a, &b, out.len()) {
         return Err(Refusal::NoRoom);
     }
-    Ok(put_lines(out, 0, &a, &b))
+    let mut to = Output::new(out);
+    put_lines(&mut to, &a, &b);
+    Ok(to.at)
 }
 
 // Whether the lines of two messages have room: the longest that there can be, or these, which are then counted.
@@ -77,8 +73,9 @@ fn have_room(a: &[u64], b: &[u64], room: usize) -> bool
         return true;
     }
     let mut none = [0u8; 1];
-    let n = put_lines(&mut none, 0, a, b);
-    n <= room
+    let mut counted = Output::new(&mut none);
+    put_lines(&mut counted, a, b);
+    counted.at <= room
 }
 
 // Reads both messages, each list as a set. A file that is not fit comes before any fault in one of them.
@@ -112,37 +109,29 @@ fn read_sets(bytes: &[u8], words: &mut [u64]) -> Result<(), Refusal>
 }
 
 // `refused N`.
-fn put_refused(out: &mut [u8], at: usize, refusal: Refusal) -> usize
-    ensures { Put out.old at (refused_text (number_of refusal)) out.new result }
+fn put_refused(to: &mut Output, refusal: Refusal)
+    ensures { Writes to.old (refused_text (number_of refusal)) to.new }
 {
-    let p = text::put_bytes(out, at, b"refused ");
-    let q = text::put_decimal(out, p, refusal.number());
-    text::put_byte(out, q, b'\n')
+    to.put_bytes(b"refused ");
+    to.put_decimal(refusal.number());
+    to.put_byte(b'\n');
 }
 
-// The lines of two messages whose lists ascend: ids ascending, then the flag.
-fn put_lines(out: &mut [u8], at: usize, a: &[u64], b: &[u64]) -> usize
+// The lines of two messages whose lists ascend: of the ids as they are met, where their standings differ, then of the flag.
+fn put_lines(to: &mut Output, a: &[u64], b: &[u64])
     requires { Ascending a.now × Ascending b.now }
-    ensures { Put out.old at (lines (message_in a.now) (message_in b.now)) out.new result }
+    ensures { Writes to.old (lines (message_in a.now) (message_in b.now)) to.new }
 {
-    let p = put_ids(out, at, a, b);
-    line::put_flag(out, p, a[confstate::FLAG] == 1, b[confstate::FLAG] == 1)
-}
-
-// The lines of the ids, as they are met.
-fn put_ids(out: &mut [u8], at: usize, a: &[u64], b: &[u64]) -> usize
-    requires { Ascending a.now × Ascending b.now }
-    ensures { Put out.old at (id_lines (message_in a.now) (message_in b.now)) out.new result }
-{
-    let mut end = at;
     let mut first = Walk::new(a);
     let mut second = Walk::new(b);
     while let Some(id) = walk::next_id(&first, &second) {
         let s = first.sets_at(id);
         let t = second.sets_at(id);
-        end = line::put_id(out, end, id, s, t);
+        if s != t {
+            line::put_line(to, id, s, t);
+        }
         first.pass(s);
         second.pass(t);
     }
-    end
+    line::put_flag(to, a[confstate::FLAG] == 1, b[confstate::FLAG] == 1);
 }

@@ -1,7 +1,10 @@
 // The text of a line: document 02, l).
-ghost use Rattle.text.specs.Put.{Put};
-ghost use Rattle.comparison.specs.Compare.{standing_text, line, line_if, flag_line};
+ghost use Rattle.std.specs.Prelude.{cond, []};
+ghost use Rattle.text.specs.Writes.{Writes};
+ghost use Rattle.comparison.specs.Compare.{standing_text, line, flag_line};
 ghost use Rattle.comparison.specs.Steps.{name_text};
+
+use text::Output;
 
 // The sets that an id is in.
 #[derive(Clone, Copy, PartialEq, Eq)]
@@ -12,68 +15,54 @@ pub struct Standing {
     pub next: bool,
 }
 
-// The line of an id, where its standing differs.
-pub fn put_id(out: &mut [u8], at: usize, id: u64, s: Standing, t: Standing) -> usize
-    ensures { Put out.old at (line_if id s t) out.new result }
-{
-    if s == t {
-        return at;
-    }
-    put_line(out, at, id, s, t)
-}
-
 // `2 voters -> learners`.
-fn put_line(out: &mut [u8], at: usize, id: u64, s: Standing, t: Standing) -> usize
-    ensures { Put out.old at (line id s t) out.new result }
+pub fn put_line(to: &mut Output, id: u64, s: Standing, t: Standing)
+    ensures { Writes to.old (line id s t) to.new }
 {
-    let a = text::put_decimal(out, at, id);
-    let b = text::put_byte(out, a, b' ');
-    let c = put_standing(out, b, s);
-    let d = text::put_bytes(out, c, b" -> ");
-    let e = put_standing(out, d, t);
-    text::put_byte(out, e, b'\n')
+    to.put_decimal(id);
+    to.put_byte(b' ');
+    put_standing(to, s);
+    to.put_bytes(b" -> ");
+    put_standing(to, t);
+    to.put_byte(b'\n');
 }
 
 // The names of the sets, joined by `+`; `none` where there is none.
-fn put_standing(out: &mut [u8], at: usize, s: Standing) -> usize
-    ensures { Put out.old at (standing_text s) out.new result }
+fn put_standing(to: &mut Output, s: Standing)
+    ensures { Writes to.old (standing_text s) to.new }
 {
     let second = s.voters;
     let third = second || s.outgoing;
     let fourth = third || s.learners;
     if !(fourth || s.next) {
-        return text::put_bytes(out, at, b"none");
+        to.put_bytes(b"none");
+        return;
     }
-    let a = put_name(out, at, s.voters, false, b"voters");
-    let b = put_name(out, a, s.outgoing, second, b"voters_outgoing");
-    let c = put_name(out, b, s.learners, third, b"learners");
-    put_name(out, c, s.next, fourth, b"learners_next")
+    put_name(to, s.voters, false, b"voters");
+    put_name(to, s.outgoing, second, b"voters_outgoing");
+    put_name(to, s.learners, third, b"learners");
+    put_name(to, s.next, fourth, b"learners_next");
 }
 
 // The name of a set that the id is in, after a `+` where another name stands before it.
-fn put_name(out: &mut [u8], at: usize, is_in: bool, later: bool, name: &[u8]) -> usize
-    ensures { Put out.old at (name_text is_in later name.now) out.new result }
+fn put_name(to: &mut Output, is_in: bool, later: bool, name: &[u8])
+    ensures { Writes to.old (name_text is_in later name.now) to.new }
 {
-    if !is_in {
-        return at;
-    }
-    if later {
-        let p = text::put_byte(out, at, b'+');
-        return text::put_bytes(out, p, name);
-    }
-    text::put_bytes(out, at, name)
+    put_if(to, is_in && later, b"+");
+    put_if(to, is_in, name);
 }
 
 // The flag, where it differs.
-pub fn put_flag(out: &mut [u8], at: usize, first: bool, second: bool) -> usize
-    ensures { Put out.old at (flag_line first second) out.new result }
+pub fn put_flag(to: &mut Output, first: bool, second: bool)
+    ensures { Writes to.old (flag_line first second) to.new }
 {
-    if first == second {
-        return at;
-    }
-    let turned_on = second;
-    if turned_on {
-        return text::put_bytes(out, at, b"auto_leave false -> true\n");
-    }
-    text::put_bytes(out, at, b"auto_leave true -> false\n")
+    put_if(to, second && !first, b"auto_leave false -> true\n");
+    put_if(to, first && !second, b"auto_leave true -> false\n");
+}
+
+// The text, where it is wanted.
+fn put_if(to: &mut Output, wanted: bool, text: &[u8])
+    ensures { Writes to.old (cond wanted text.now []) to.new }
+{
+    to.put_bytes(if wanted { text } else { b"" });
 }

@@ -99,11 +99,10 @@ fn lesser(words: &[u64], k: usize, at: usize, found: Option<u64>) -> Option<u64>
 }
 
 // Whether `id` stands at the place `at` of the list at `k`.
-#[tactic(auto, using(crate::proofs::Places::stands_in_lem))]
 fn is_at(words: &[u64], k: usize, at: usize, id: u64) -> bool
     requires { (k + 65 ≤ length words.now) × (length (list_in words.now k) ≤ 64) }
     ensures { result ≡ first_is id (drop at (list_in words.now k)) }
 {
     let count = words[k + 64] as usize;
-    idset::stands_at(&words[k..k + 64], count, at, id)
+    idset::stands_at(&words[k..k + count], at, id)
 }

@@ -8,4 +8,4 @@ use Rattle.calls.proofs.enter_joint.Goals as goal
 pub returns : goal.returns
 returns c = let a = ids_listed c.args.s.now c.change_list-list.ensures in
     let b = kinds_listed c.args.s.now c.change_list-list.ensures in
-    c.enter_joint.ensures ∙ (λ i. enter_answer c.args.t (flag (c.word.ensures i)) ((c.ids.ensures ∙ a) i) ((c.kinds.ensures ∙ b) i))
+    c.enter_joint.ensures ∙ (λ i. enter_answer c.args.t.now (flag (c.word.ensures i)) ((c.ids.ensures ∙ a) i) ((c.kinds.ensures ∙ b) i))

@@ -7,4 +7,4 @@ use Rattle.calls.proofs.simple.Goals as goal
 pub returns : goal.returns
 returns c = let a = ids_listed c.args.s.now c.change_list-list.ensures in
     let b = kinds_listed c.args.s.now c.change_list-list.ensures in
-    c.simple.ensures ∙ (λ i. simple_answer c.args.t ((c.ids.ensures ∙ a) i) ((c.kinds.ensures ∙ b) i))
+    c.simple.ensures ∙ (λ i. simple_answer c.args.t.now ((c.ids.ensures ∙ a) i) ((c.kinds.ensures ∙ b) i))

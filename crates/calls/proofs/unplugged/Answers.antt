@@ -4,15 +4,15 @@ use mathlib.Core.Path.{◌≡◌, ap, sym, subst, ◌∙◌}
 use mathlib.Core.Bool.{false≢true}
 use mathlib.Core.List.{List}
 use Rattle.std.specs.Prelude.{Result, Ok, Err, IsErr, IsErrAnd}
-use Rattle.tracker.specs.declared.Verdict.{Verdict}
+use Rattle.tracker.specs.declared.refusal.Refusal.{Refusal}
 use Rattle.calls.specs.Asked.{refusal_number, same_unfit}
-use Rattle.calls.specs.Unplugs.{Unplugs, unplug_answer}
+use Rattle.calls.specs.Unplugs.{Unplugs, told, unplug_answer}
 use Rattle.calls.specs.declared.asked.Unanswered.{Unanswered}
 use Rattle.calls.proofs.UnplugEntry.{lacks_length, lacks-room, answered, map_err}
 use Rattle.calls.proofs.unplugged.Goals as goal
 
 -- what `?` gives on is the refusal
-refused_with : (ws : List ℕ) (x room : ℕ) (w : Unanswered) → unplug_answer ws room ≡ refusal_number w → (r : Result Verdict Unanswered) → IsErr r × IsErrAnd r (λ e. e ≡ w) → Unplugs ws x room r
+refused_with : {A : Type 0} (ws : List ℕ) (x room : ℕ) (w : Unanswered) → unplug_answer ws room ≡ refusal_number w → (r : Result (Result A Refusal) Unanswered) → IsErr r × IsErrAnd r (λ e. e ≡ w) → Unplugs ws x room (told r)
 refused_with ws x room w a (Ok v) h = absurd (false≢true h.0)
 refused_with ws x room w a (Err e) h = a ∙ ap refusal_number (sym h.1)
 

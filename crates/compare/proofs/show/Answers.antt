@@ -6,29 +6,30 @@ use Rattle.std.specs.Io.KnownBytes.{Appends}
 use Rattle.text.specs.Put.{Put}
 use Rattle.text.proofs.Laws.{put_whole, put-length}
 use Rattle.comparison.specs.Compare.{comparison}
+use Rattle.comparison.proofs.Pieces.{front}
 use Rattle.comparison.proofs.Size.{comparison-size}
 use Rattle.compare.proofs.show.Goals as goal
 
-module _ (r : Bool) (l m : List ℕ) {old new : List ℕ} {n : ℕ} (room : length old ≡ 20761) (put : Put old 0 (comparison r l m) new n) where
+module _ (r : Bool) (l m : List ℕ) {old new text : List ℕ} {n : ℕ} (room : length old ≡ 20761) (held : text ≡ new) (put : Put old 0 (comparison r l m) new n) where
   long : n ≡ length (comparison r l m)
   long = (put_whole (omega arith) put (omega (arith, comparison-size r l m))).1
 
-  fits : n ≤ length new
-  fits = omega (arith, long, comparison-size r l m, put-length put)
+  fits : n ≤ length text
+  fits = omega (arith, long, comparison-size r l m, put-length put, ap length held)
 
-  front : take n new ≡ comparison r l m
-  front =
+  printed : take n text ≡ comparison r l m
+  printed =
       let whole = put_whole (omega arith) put (omega (arith, comparison-size r l m)) in
-      ap (λ k. take k new) whole.1 ∙ ap (take (length (comparison r l m))) whole.0 ∙ take-append_seam (comparison r l m) (drop (length (comparison r l m)) old)
+      ap (take n) held ∙ ap (λ k. take k new) whole.1 ∙ ap (take (length (comparison r l m))) whole.0 ∙ take-append_seam (comparison r l m) (drop (length (comparison r l m)) old)
 
 pub slice_bounds-text-end : goal.slice_bounds-text-end
-slice_bounds-text-end g c = fits c.args.readable c.args.first.now c.args.second.now (search rules) c.put_comparison-n.ensures
+slice_bounds-text-end g c = fits c.args.readable c.args.first.now c.args.second.now (search rules) (search rules) (front c.new-to.ensures.untouched c.new-to.ensures.front c.put_comparison.ensures)
 
 pub slice_bounds-write_output-end : goal.slice_bounds-write_output-end
-slice_bounds-write_output-end g c = sym (length-take-le _ _ (fits c.args.readable c.args.first.now c.args.second.now (search rules) c.put_comparison-n.ensures))
+slice_bounds-write_output-end g c = sym (length-take-le _ _ (fits c.args.readable c.args.first.now c.args.second.now (search rules) (search rules) (front c.new-to.ensures.untouched c.new-to.ensures.front c.put_comparison.ensures)))
 
 pub returns-then-readable : goal.returns-then-readable
-returns-then-readable g c = on_ok_weaker _ (subst (Appends _ _) (front c.args.readable c.args.first.now c.args.second.now (search rules) c.put_comparison-n.ensures)) c.write_output-printed.ensures
+returns-then-readable g c = on_ok_weaker _ (subst (Appends _ _) (printed c.args.readable c.args.first.now c.args.second.now (search rules) (search rules) (front c.new-to.ensures.untouched c.new-to.ensures.front c.put_comparison.ensures))) c.write_output-printed.ensures
 
 pub returns-else-readable : goal.returns-else-readable
-returns-else-readable g c = on_ok_weaker _ (subst (Appends _ _) (front c.args.readable c.args.first.now c.args.second.now (search rules) c.put_comparison-n.ensures)) c.write_output-printed.ensures
+returns-else-readable g c = on_ok_weaker _ (subst (Appends _ _) (printed c.args.readable c.args.first.now c.args.second.now (search rules) (search rules) (front c.new-to.ensures.untouched c.new-to.ensures.front c.put_comparison.ensures))) c.write_output-printed.ensures

@@ -1,8 +1,10 @@
 -- `comparison::put_compared` meets its contract: a message that is refused, lines that do not fit, lines that fit. Assumes nothing.
 use native.Mathlib.Omega.{arith}
-use mathlib.Core.Path.{refl}
+use mathlib.Core.Path.{refl, ◌∙◌}
+use borrow.Author.Rules.{rules}
 use lib.ListN.{length}
 use Rattle.std.proofs.lemmas.Result.{err_from_is_err_and}
+use Rattle.comparison.proofs.Pieces.{front}
 use Rattle.comparison.proofs.Messages.{number-some, both_ascend, answer-refused, leaves-refused, answer_none, leaves_none, answer-all, leaves_all}
 use Rattle.comparison.proofs.put_compared.Goals as goal
 
@@ -31,5 +33,5 @@ returns c =
     let r = c.in_ok-read_both.ensures in
     let f = c.have_room.ensures in
     let k = c.if-not-have_room.false in
-    let g = c.put_lines.ensures in
-    (answer-all r refl o f k (omega (arith, c.well_formed)) g, leaves_all r refl o f k (omega (arith, c.well_formed)) g)
+    let g = front c.new-to.ensures.untouched c.new-to.ensures.front c.put_lines.ensures in
+    (answer-all r refl o f k (omega (arith, c.well_formed)) g, search rules ∙ leaves_all r refl o f k (omega (arith, c.well_formed)) g)

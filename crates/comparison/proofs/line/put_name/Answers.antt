@@ -1,14 +1,13 @@
--- `comparison::line::put_name` meets its contract: nothing, a `+` and the name, or the name. Assumes nothing.
+-- `comparison::line::put_name` meets its contract: a `+` where it is wanted, then the name where it is. Assumes nothing.
+use mathlib.Core.Bool.{◌&&◌}
+use mathlib.Core.Path.{◌≡◌}
 use native.Mathlib.Omega.{arith}
-use Rattle.text.proofs.Laws.{put_none, put_then}
-use Rattle.comparison.proofs.Lines.{name_none, name_later, name_first}
+use Rattle.text.proofs.Outputs.{writes_then}
+use Rattle.comparison.proofs.Lines.{and_then, and_else, name_pieces}
 use Rattle.comparison.proofs.line.put_name.Goals as goal
-
-pub returns-then-not-is_in : goal.returns-then-not-is_in
-returns-then-not-is_in c = rw (name_none c.args.is_in c.args.later c.args.name.now c.if-not-is_in.true) (put_none (omega (arith, c.ranges)))
-
-pub returns-then-later : goal.returns-then-later
-returns-then-later c = rw (name_later c.args.is_in c.args.later c.args.name.now c.if-not-is_in.false c.if-later.true) (put_then (omega (arith, c.well_formed)) c.put_byte-p.ensures c.put_bytes.ensures)
+use Rattle.comparison.proofs.line.put_name.Goals.{then-is_in, else-is_in}
 
 pub returns : goal.returns
-returns c = rw (name_first c.args.is_in c.args.later c.args.name.now c.if-not-is_in.false c.if-later.false) c.put_bytes-2.ensures
+returns c =
+    let f : c.if-is_in.put_if ≡ c.args.is_in && c.args.later = elim c.if-is_in.branch [ then-is_in w ↦ and_then _ _ w.if-is_in.true w.put_if-is | else-is_in w ↦ and_else _ _ w.if-is_in.false w.put_if-is ] in
+    rw (← name_pieces c.args.is_in c.args.later c.args.name.now) (writes_then (omega arith) (rw f at c.put_if.ensures) c.put_if-2.ensures)
