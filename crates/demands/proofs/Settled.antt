@@ -77,6 +77,7 @@ use Rattle.changer.proofs.leave_joint.Reads as changer-leave-joint
 use Rattle.restore.proofs.restore.Reads as restore-restore
 use Rattle.restore.proofs.restore_step_by_step.Reads as restore-restore-step-by-step
 use Rattle.restore.proofs.apply_answer.Reads as restore-apply-answer
+use Rattle.restore.proofs.to_conf_change_single.Reads as restore-to-conf-change-single
 use Rattle.unplug.proofs.unplug.Reads as unplug-unplug
 use Rattle.demands.proofs.Walked.{contains_says, view_says}
 
@@ -231,6 +232,7 @@ pub record Calls : Type 0 where
   pub restore : SettlesLeft restore-restore.Learnt (λ κs e. e.0.now)
   pub restore-step-by-step : SettlesLeft restore-restore-step-by-step.Learnt (λ κs e. e.0.now)
   pub apply-answer : SettlesLeft restore-apply-answer.Learnt (λ κs e. e.0.now)
+  pub to-conf-change-single : Settles restore-to-conf-change-single.Learnt
   pub unplug : Settles unplug-unplug.Learnt
 
 -- two variants, and what they hold
@@ -257,6 +259,7 @@ calls = record {
   leave-joint = λ κs a z y e d. answered_once _ z y;
   restore = search leaves;
   restore-step-by-step = search leaves;
+  to-conf-change-single = λ κs a z y e d h k. equation z y h.is k.is;
   apply-answer = search leaves;
   unplug = λ κs a z y e d. unplugs z y;
 }
