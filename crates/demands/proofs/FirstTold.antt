@@ -27,7 +27,6 @@ use Rattle.tracker.specs.declared.ChangeLog.{ChangeLog}
 use Rattle.tracker.specs.declared.ConfState.{ConfState}
 use Rattle.tracker.specs.declared.Configuration.{Configuration}
 use Rattle.tracker.specs.declared.Tracker.{Tracker}
-use Rattle.tracker.specs.Apply as struct
 use Rattle.tracker.proofs.Bridge.{conf-formed, log-formed, tracker_formed}
 use Rattle.invariants.specs.Check.{check_of}
 use Rattle.changer.specs.Calls.{answer_of, enter_answer, if_formed, leave_answer, simple_answer, unplug_of}
@@ -230,12 +229,12 @@ module _ (t : Tracker) where
 -- ** Through the entries
 
 -- either of two
-either : {A : Type 0} (of : A → struct.Verdict) (b : Bool) (x y : A) (xs ys : List Verdict) → of x ≡ verdict_of (first_of xs) → of y ≡ verdict_of (first_of ys) → of (cond b x y) ≡ verdict_of (first_of (cond b xs ys))
+either : {A : Type 0} (of : A → tracker.Verdict) (b : Bool) (x y : A) (xs ys : List Verdict) → of x ≡ verdict_of (first_of xs) → of y ≡ verdict_of (first_of ys) → of (cond b x y) ≡ verdict_of (first_of (cond b xs ys))
 either of true x y xs ys h k = h
 either of false x y xs ys h k = k
 
 -- either of two with the same tests
-both : {A : Type 0} (of : A → struct.Verdict) (b : Bool) (x y : A) (xs : List Verdict) → of x ≡ verdict_of (first_of xs) → of y ≡ verdict_of (first_of xs) → of (cond b x y) ≡ verdict_of (first_of xs)
+both : {A : Type 0} (of : A → tracker.Verdict) (b : Bool) (x y : A) (xs : List Verdict) → of x ≡ verdict_of (first_of xs) → of y ≡ verdict_of (first_of xs) → of (cond b x y) ≡ verdict_of (first_of xs)
 both of true x y xs h k = h
 both of false x y xs h k = k
 
@@ -271,7 +270,7 @@ words-told : (state verdict : List ℕ) (x : ℕ) → unplug_answer state (lengt
     → take 2 (unplug_leaves state x verdict) ≡ number_of (first_of (unplug_tests (state_in state) x)) ∷ id_of (first_of (unplug_tests (state_in state) x)) ∷ []
 unfolding unplug_leaves
 words-told state verdict x h =
-    rw (eq-eqb (unplug_answer state (length verdict)) 0 h) (ap (λ (v : struct.Verdict). v.number ∷ v.id ∷ []) (unplug-told (state_in state) x))
+    rw (eq-eqb (unplug_answer state (length verdict)) 0 h) (ap (λ (v : tracker.Verdict). v.number ∷ v.id ∷ []) (unplug-told (state_in state) x))
 
 turn_told : (z : Session) (kind : ℕ) → told (answer_in z kind) ≡ verdict_of (first_of (turn_tests z kind))
 unfolding answer_in turn_tests

@@ -1,5 +1,5 @@
--- The contracts of text, listing, wire, confstate, comparison and calls: two results that one allows are equal, and so is what a lent output then holds. `Learnt` is as in
--- proofs/Settled.antt. Assumes nothing.
+-- The contracts of text, listing, wire, confstate, comparison and calls: two results that one allows are equal, and so is what a lent output then
+-- holds. `Learnt` is as in proofs/Settled.antt. Assumes nothing.
 use Prim.Native.Nat.{ℕ}
 use Prim.{Unit}
 use mathlib.Core.Path.{◌≡◌, refl}
@@ -7,10 +7,11 @@ use mathlib.Core.List.{List}
 use Rattle.text.specs.Put.{Put}
 use Rattle.text.specs.Writes.{Writes}
 use Rattle.text.specs.declared.Output.{Output}
-use Rattle.text.proofs.put_byte.Reads as text-put-byte
-use Rattle.text.proofs.put_bytes.Reads as text-put-bytes
-use Rattle.text.proofs.put_decimal.Reads as text-put-decimal
-use Rattle.text.proofs.put_group.Reads as text-put-group
+use Rattle.text.proofs.Output.new.Reads as text-new
+use Rattle.text.proofs.Output.put_byte.Reads as text-put-byte
+use Rattle.text.proofs.Output.put_bytes.Reads as text-put-bytes
+use Rattle.text.proofs.Output.+put_decimal.Reads as text-put-decimal
+use Rattle.text.proofs.Output.put_group.Reads as text-put-group
 use Rattle.listing.proofs.dimecandle_replay.Reads as listing-replay
 use Rattle.listing.proofs.Session.begin.Reads as listing-begin
 use Rattle.listing.proofs.Session.stops.Reads as listing-stops
@@ -40,39 +41,43 @@ use Rattle.calls.proofs.read.conf.Reads as calls-conf
 use Rattle.calls.proofs.read.log.Reads as calls-log
 use Rattle.calls.proofs.read.conf_state.Reads as calls-conf-state
 use Rattle.calls.proofs.write.put_reply.Reads as calls-put-reply
-use Rattle.demands.proofs.Settled.{Settles, equation}
-
--- P is a contract, `held` what is held at exit of what was lent: of the same arguments it allows one result and one of that
-abbrev pub SettlesWith : {K : Type 0} {A Z E : K → Type 0} {H : Type 0} → ((κs : K) → A κs → Z κs → E κs → Type 0) → ((κs : K) → E κs → H) → Type 0
-SettlesWith {K} {A} {Z} {E} {H} P held = (κs : K) (a : A κs) (z y : Z κs) (e d : E κs) → P κs a z e → P κs a y d → (z ≡ y) × (held κs e ≡ held κs d)
+use Rattle.demands.proofs.Settled.{Settles, SettlesLeft, equation}
 
 -- what an output holds, and its place
 abbrev pub held_by : Output → List ℕ × ℕ
 held_by o = (o.bytes.now, o.at)
 
 -- the place after a text, and the slice
-pub put-settled : {old text : List ℕ} {at : ℕ} {m n : List ℕ} {p q : ℕ} → Put old at text m p → Put old at text n q → (p ≡ q) × (m ≡ n)
+put-settled : {old text : List ℕ} {at : ℕ} {m n : List ℕ} {p q : ℕ} → Put old at text m p → Put old at text n q → (p ≡ q) × (m ≡ n)
 put-settled {m = m} {n = n} {p = p} {q = q} a b = (equation p q a.end b.end, equation m n a.bytes b.bytes)
 
--- P is a contract, `left` the output that it leaves: of the same arguments it allows one place after the text, and one slice
-abbrev pub SettlesOutput : {K : Type 0} {A Z E : K → Type 0} → ((κs : K) → A κs → Z κs → E κs → Type 0) → ((κs : K) → E κs → Output) → Type 0
-SettlesOutput {K} {A} {Z} {E} P left =
-    (κs : K) (a : A κs) (z y : Z κs) (e d : E κs) → P κs a z e → P κs a y d → ((left κs e).at ≡ (left κs d).at) × ((left κs e).bytes.now ≡ (left κs d).bytes.now)
+-- an output after a text
+written-settled : {old p q : Output} {text : List ℕ} {z y : Unit {0}} → Writes old text p → Writes old text q → (z ≡ y) × (held_by p ≡ held_by q)
+written-settled a b = let p = put-settled a.put b.put in
+    (refl, λ i. (p.1 i, p.0 i))
 
--- the place after a text that is put into an output, and its slice
-pub written_settled : {o p q : Output} {text : List ℕ} → Writes o text p → Writes o text q → (p.at ≡ q.at) × (p.bytes.now ≡ q.bytes.now)
-written_settled f g = put-settled f.put g.put
+-- an entry: what it returns, and what it leaves
+both : {A B : Type 0} {v : A} {w : B} {r q : A} {m n : B} → (r ≡ v) × (m ≡ w) → (q ≡ v) × (n ≡ w) → (r ≡ q) × (m ≡ n)
+both {r = r} {q = q} {m = m} {n = n} a b = (equation r q a.0 b.0, equation m n a.1 b.1)
 
 -- ** text
 
 pub record Texts : Type 0 where
-  pub put_byte : SettlesWith text-put-byte.Learnt (λ κs e. e.0.now)
-  pub put-bytes : SettlesWith text-put-bytes.Learnt (λ κs e. e.0.now)
-  pub put-decimal : SettlesWith text-put-decimal.Learnt (λ κs e. e.0.now)
-  pub put-group : SettlesWith text-put-group.Learnt (λ κs e. e.0.now)
+  -- what it holds; it stands where the lent slice does
+  pub new : (κs : _) (a : _) (z y : _) (e d : _) → text-new.Learnt κs a z e → text-new.Learnt κs a y d → held_by z ≡ held_by y
+  pub put_byte : SettlesLeft text-put-byte.Learnt (λ κs e. held_by e.0.now)
+  pub put-bytes : SettlesLeft text-put-bytes.Learnt (λ κs e. held_by e.0.now)
+  pub put-decimal : SettlesLeft text-put-decimal.Learnt (λ κs e. held_by e.0.now)
+  pub put-group : SettlesLeft text-put-group.Learnt (λ κs e. held_by e.0.now)
 
 pub text : Texts
-text = search put-settled
+text = record {
+  new = λ κs a z y e d h k i. (equation z.bytes.now y.bytes.now h.1 k.1 i, equation z.at y.at h.2 k.2 i);
+  put_byte = search written-settled;
+  put-bytes = search written-settled;
+  put-decimal = search written-settled;
+  put-group = search written-settled;
+}
 
 -- ** listing
 
@@ -80,30 +85,21 @@ abbrev pub left_by : Session → Output → Session × (List ℕ × ℕ)
 left_by z o = (z, held_by o)
 
 pub record Listings : Type 0 where
-  pub dimecandle_replay : SettlesWith listing-replay.Learnt (λ κs e. e.1.0.now)
+  pub dimecandle_replay : SettlesLeft listing-replay.Learnt (λ κs e. e.1.0.now)
   pub begin : Settles listing-begin.Learnt
   pub stops : Settles listing-stops.Learnt
   -- the session, and the output
-  pub turn : SettlesWith listing-turn.Learnt (λ κs e. left_by e.0.now e.1.0.now)
-  pub put_stopped : SettlesWith listing-put-stopped.Learnt (λ κs e. held_by e.0.now)
-  pub put-ending : SettlesWith listing-put-ending.Learnt (λ κs e. held_by e.0.now)
+  pub turn : SettlesLeft listing-turn.Learnt (λ κs e. left_by e.0.now e.1.0.now)
+  pub put_stopped : SettlesLeft listing-put-stopped.Learnt (λ κs e. held_by e.0.now)
+  pub put-ending : SettlesLeft listing-put-ending.Learnt (λ κs e. held_by e.0.now)
   pub number_at : Settles listing-number-at.Learnt
-  pub put-answer : SettlesWith listing-put-answer.Learnt (λ κs e. held_by e.0.now)
-
--- an output after a text
-written-settled : {old p q : Output} {text : List ℕ} {z y : Unit {0}} → Writes old text p → Writes old text q → (z ≡ y) × (held_by p ≡ held_by q)
-written-settled a b = let p = put-settled a.put b.put in
-    (refl, λ i. (p.1 i, p.0 i))
+  pub put-answer : SettlesLeft listing-put-answer.Learnt (λ κs e. held_by e.0.now)
 
 -- a session and an output after a turn
 turned : {old p q : Output} {text : List ℕ} {v t u : Session} {z y : Unit {0}} → Writes old text p × (t ≡ v) → Writes old text q × (u ≡ v) → (z ≡ y) × (left_by t p ≡ left_by u q)
 turned {t = t} {u = u} a b =
     let p = put-settled a.0.put b.0.put in
     (refl, λ i. (equation t u a.1 b.1 i, (p.1 i, p.0 i)))
-
--- an entry: what it returns, and what it leaves
-both : {A B : Type 0} {v : A} {w : B} {r q : A} {m n : B} → (r ≡ v) × (m ≡ w) → (q ≡ v) × (n ≡ w) → (r ≡ q) × (m ≡ n)
-both {r = r} {q = q} {m = m} {n = n} a b = (equation r q a.0 b.0, equation m n a.1 b.1)
 
 pub listing : Listings
 listing = search (equation, written-settled, turned, both)
@@ -113,23 +109,23 @@ listing = search (equation, written-settled, turned, both)
 pub record Messages : Type 0 where
   pub read-varint : Settles wire-read-varint.Learnt
   pub size : Settles wire-size.Learnt
-  pub put-varint : SettlesWith wire-put-varint.Learnt (λ κs e. e.0.now)
-  pub read : SettlesWith confstate-read.Learnt (λ κs e. e.1.0.now)
-  pub write : SettlesWith confstate-write.Learnt (λ κs e. e.1.0.now)
-  pub put-comparison : SettlesWith comparison-put.Learnt (λ κs e. e.0.now)
-  pub compare : SettlesWith comparison-compare.Learnt (λ κs e. e.1.1.0.now)
+  pub put-varint : SettlesLeft wire-put-varint.Learnt (λ κs e. e.0.now)
+  pub read : SettlesLeft confstate-read.Learnt (λ κs e. e.1.0.now)
+  pub write : SettlesLeft confstate-write.Learnt (λ κs e. e.1.0.now)
+  pub put-comparison : SettlesLeft comparison-put.Learnt (λ κs e. held_by e.0.now)
+  pub compare : SettlesLeft comparison-compare.Learnt (λ κs e. e.1.1.0.now)
 
 pub messages : Messages
-messages = search (equation, put-settled, both)
+messages = search (equation, put-settled, written-settled, both)
 
 -- ** calls
 
 pub record Entries : Type 0 where
-  pub dimecandle_call : SettlesWith calls-call.Learnt (λ κs e. e.1.0.now)
-  pub dimecandle_unplug : SettlesWith calls-unplug.Learnt (λ κs e. e.1.1.0.now)
-  pub dimecandle_read_conf_state : SettlesWith calls-read-conf-state.Learnt (λ κs e. e.1.0.now)
-  pub dimecandle_write_conf_state : SettlesWith calls-write-conf-state.Learnt (λ κs e. e.1.0.now)
-  pub dimecandle_compare : SettlesWith calls-compare.Learnt (λ κs e. e.1.1.0.now)
+  pub dimecandle_call : SettlesLeft calls-call.Learnt (λ κs e. e.1.0.now)
+  pub dimecandle_unplug : SettlesLeft calls-unplug.Learnt (λ κs e. e.1.1.0.now)
+  pub dimecandle_read_conf_state : SettlesLeft calls-read-conf-state.Learnt (λ κs e. e.1.0.now)
+  pub dimecandle_write_conf_state : SettlesLeft calls-write-conf-state.Learnt (λ κs e. e.1.0.now)
+  pub dimecandle_compare : SettlesLeft calls-compare.Learnt (λ κs e. e.1.1.0.now)
   pub word : Settles calls-word.Learnt
   pub holds : Settles calls-holds.Learnt
   pub state : Settles calls-state.Learnt
@@ -137,7 +133,7 @@ pub record Entries : Type 0 where
   pub conf : Settles calls-conf.Learnt
   pub log : Settles calls-log.Learnt
   pub conf-state : Settles calls-conf-state.Learnt
-  pub put-reply : SettlesOutput calls-put-reply.Learnt (λ κs e. e.0.now)
+  pub put-reply : SettlesLeft calls-put-reply.Learnt (λ κs e. held_by e.0.now)
 
 pub entries : Entries
-entries = search (equation, written_settled, both)
+entries = search (equation, written-settled, both)

@@ -27,7 +27,6 @@ use Rattle.tracker.specs.declared.ConfState.{ConfState}
 use Rattle.tracker.specs.declared.Configuration.{Configuration}
 use Rattle.tracker.specs.Apply.{Outcome}
 use Rattle.tracker.specs.declared.Tracker.{Tracker}
-use Rattle.tracker.specs.Apply as struct
 use Rattle.tracker.specs.ConfStates.{Written}
 use Rattle.invariants.specs.Check.{check_of, check_walk, learners_walk, rest_walk, voters_walk}
 use Rattle.changer.specs.Calls.{enter_answer, leave_answer, simple_answer, unplug_of}
@@ -214,16 +213,16 @@ unplug_tests t x =
 -- ** What is told
 
 -- number and id of an answer, of what was written, of a reply, of what is told of a state in words
-abbrev pub told : Answer → struct.Verdict
+abbrev pub told : Answer → tracker.Verdict
 told a = record { number = a.number; id = a.id }
 
-abbrev pub told_written : Written → struct.Verdict
+abbrev pub told_written : Written → tracker.Verdict
 told_written w = record { number = w.number; id = w.id }
 
-abbrev pub told_reply : Reply → struct.Verdict
+abbrev pub told_reply : Reply → tracker.Verdict
 told_reply r = record { number = r.number; id = r.id }
 
-abbrev pub told_words : Told → struct.Verdict
+abbrev pub told_words : Told → tracker.Verdict
 told_words r = record { number = r.number; id = r.id }
 
 -- Each call of t tells the first of its tests that refuses.

@@ -114,9 +114,9 @@ fn restored(
     rt: &impl Print,
     asked: &str,
     t: Tracker,
-    result: Result<(), Refusal>,
+    told: Result<(), Refusal>,
 ) -> io::Result<Tracker> {
-    let outcome = Restored(result, t);
+    let outcome = Restored(told, t);
     println!(rt; "{asked}{outcome}")?;
     Ok(t)
 }
@@ -129,7 +129,11 @@ pub(crate) fn check(rt: &impl Print, asked: &str, t: Tracker) -> io::Result<()> 
 
 // Whether a state is in order.
 pub(crate) fn in_order(rt: &impl Print, asked: &str, t: Tracker) -> io::Result<()> {
-    let answer = if invariants::in_order(&t) { "yes" } else { "no" };
+    let answer = if invariants::in_order(&t) {
+        "yes"
+    } else {
+        "no"
+    };
     println!(rt; "{asked}{answer}")
 }
 

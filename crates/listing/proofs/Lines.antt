@@ -1,19 +1,16 @@
 -- The pieces of a line: an entry, a set of an array's first places, the log. Assumes nothing.
-use Prim.Native.Nat.{ℕ, zero, suc, ◌+◌, ◌-◌, ◌≤◌, ◌<◌, min}
+use Prim.Native.Nat.{ℕ, min}
 use mathlib.Core.Path.{◌≡◌, refl, ap, sym, ◌∙◌}
 use mathlib.Core.List.{List, [], ◌∷◌, ◌++◌, append_assoc}
 use native.Mathlib.Omega.{arith, min_cases}
-use lib.ListN.{length, take, drop, get_or, length-take, length-drop}
-use lib.Seq.{length-take-le, take_all, get_or-drop, get_or-take}
-use Rattle.text.specs.Put.{Put, last}
+use lib.ListN.{length, take}
+use lib.Seq.{take_all}
 use Rattle.text.specs.Text.{decimal, each}
-use Rattle.text.proofs.Laws.{Passing, pass_start, pass_next, pass_end, pass_length, rest_all, rest_put, rest-last}
 use Rattle.tracker.specs.Bridge.{entry, entry_of, entries_of, log_of}
 use Rattle.tracker.specs.declared.ChangeLog.{ChangeLog}
 use Rattle.tracker.specs.declared.MapChange.{MapChange}
 use Rattle.tracker.specs.declared.MapChangeType.{MapChangeType}
 use Rattle.tracker.specs.declared.MapChangeType.TheVariants.{Add, Remove}
-use Rattle.tracker.proofs.Logs.{length_entries}
 use Rattle.listing.specs.Lines.{entry_text, spaced_entry, entries_text, log_text}
 use Rattle.listing.specs.Sessions.{sign_of}
 

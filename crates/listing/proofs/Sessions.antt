@@ -18,10 +18,10 @@ use Rattle.rules.specs.Restore.{apply_answer}
 use Rattle.text.specs.Put.{last}
 use Rattle.tracker.specs.Bridge.{state_of}
 use Rattle.tracker.specs.Form.{tracker_well_formed}
-use Rattle.tracker.specs.declared.Outcome.{Outcome}
+use Rattle.tracker.specs.Apply.{Outcome}
 use Rattle.tracker.proofs.Bridge.{state-back, tracker_well, tracker_formed}
 use Rattle.changer.specs.Calls.{answer_of, simple_answer, enter_answer, leave_answer}
-use Rattle.changer.specs.declared.Answer as changer
+use Rattle.changer.specs.Calls as changer
 use Rattle.restore.specs.Restore.{applied_to}
 use Rattle.restore.proofs.Applied.{Fits, applied-formed, applied-same, outcome-formed}
 use Rattle.listing.specs.Script as script

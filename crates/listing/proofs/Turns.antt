@@ -5,8 +5,7 @@ use mathlib.Core.Bool.{Bool, true, false, cond}
 use mathlib.Core.List.{[]}
 use borrow.Author.Tests.{le-leb, lt-leb}
 use lib.ListN.{length, take}
-use Rattle.changer.specs.declared.Answer.{Answer}
-use Rattle.changer.specs.Calls.{simple_answer, enter_answer, leave_answer}
+use Rattle.changer.specs.Calls.{Answer, simple_answer, enter_answer, leave_answer}
 use Rattle.listing.specs.Sessions.{pend_in, answer_in, applied_in, after_in, answer_text, shown_in}
 use Rattle.listing.specs.declared.Session.{Session}
 use Rattle.listing.proofs.Lines.{take_least}

@@ -17,8 +17,7 @@ use Rattle.idset.specs.Set.{set_of, well_formed}
 use Rattle.tracker.specs.Bridge.{configuration_of, peers_of, records_of, record_places, entries_of, map_changes_of, change_log_of}
 use Rattle.tracker.specs.Form.{conf_well_formed, all_unused, tracker_well_formed, is_blank, all_blank, log_well_formed}
 use Rattle.tracker.specs.Apply.{apply_of}
-use Rattle.changer.specs.declared.Answer.{Answer}
-use Rattle.changer.specs.Calls.{simple_answer, enter_answer}
+use Rattle.changer.specs.Calls.{Answer, simple_answer, enter_answer}
 use Rattle.restore.specs.Restore.{applied_to}
 use Rattle.text.specs.Text.{digits, decimal, each, words, group, ascii}
 use Rattle.listing.specs.Script as script

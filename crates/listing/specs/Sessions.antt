@@ -1,12 +1,14 @@
 -- A replay in a struct, and what each record makes of any such struct. On those that a replay comes to it is what specs/Script.antt says
 -- (proofs/Sessions.antt). Assumes nothing.
-use Rattle.std.specs.Prelude.{ℕ, ◌+◌, min, cond, List, [], eqb, leb, take, set, replicate}
+use Rattle.std.specs.Prelude.{ℕ, ◌+◌, min, Result, Ok, Err, cond, List, [], eqb, leb, take, set, replicate}
 use Rattle.rules.specs.State.{fresh}
 use Rattle.tracker.specs.Bridge.{conf_of, log_of, state_of, tracker_of}
 use Rattle.tracker.specs.declared.MapChangeType.{MapChangeType}
 use Rattle.tracker.specs.declared.MapChangeType.TheVariants.{Add, Remove}
-use Rattle.changer.specs.declared.Answer.{Answer}
-use Rattle.changer.specs.Calls.{simple_answer, enter_answer, leave_answer}
+use Rattle.tracker.specs.declared.refusal.Refusal.{Refusal}
+use Rattle.tracker.specs.Refusals.{number_at, id_at}
+use Rattle.changer.specs.declared.Changed.{Changed}
+use Rattle.changer.specs.Calls.{Answer, simple_answer, enter_answer, leave_answer}
 use Rattle.restore.specs.Restore.{applied_to}
 use Rattle.text.specs.Put.{last}
 use Rattle.listing.specs.Script as script
@@ -43,6 +45,11 @@ after_in z kind n = cond (is_change kind) (pend_in z kind n) (applied_in z (answ
 -- an answer's line
 unfoldable pub answer_text : ℕ → Answer → List ℕ
 answer_text k a = cond (eqb a.number 0) (ok_line k (conf_of a.conf) (log_of a.log)) (refused_line k a.number a.id)
+
+-- the same line, of a call's result; the configuration that a refusal gives back is not in it (`result_line`, proofs/Answers.antt)
+abbrev pub result_text : ℕ → Result Changed Refusal → List ℕ
+result_text k (Ok a) = ok_line k (conf_of a.conf) (log_of a.log)
+result_text k (Err r) = refused_line k (number_at r) (id_at r)
 
 unfoldable pub shown_in : Session → ℕ → List ℕ
 shown_in z kind = cond (is_change kind) [] (answer_text (min (z.printed + 1) last) (answer_in z kind))

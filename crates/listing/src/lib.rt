@@ -4,16 +4,19 @@
 ghost use Rattle.std.specs.Prelude.{◌≡◌, ◌<◌, ◌+◌, ◌≤◌, length, get_or, MatchOption};
 ghost use Rattle.text.specs.Put.{Put};
 ghost use Rattle.text.specs.Writes.{Writes};
+ghost use Rattle.changer.specs.Calls.{answered};
 ghost use Rattle.listing.specs.Kinds.{byte_of, IsByteOf};
 ghost use Rattle.listing.specs.Script as script;
 ghost use Rattle.listing.specs.Lines.{stopped_line};
 ghost use Rattle.listing.specs.Listing.{ending, listing, replay_answer, replay_leaves};
+ghost use Rattle.listing.specs.Unlisted.{number_of, answer_as};
 ghost use Rattle.listing.specs.Sessions.{session_of, begin_in, answer_in, pend_in, applied_in, after_in, shown_in};
 
-use changer::{Answer, enter_joint, leave_joint, simple};
+use changer::{Changed, enter_joint, leave_joint, simple};
 use restore::apply_answer;
 use text::Output;
-use tracker::{Tracker, numbers};
+use tracker::Tracker;
+use tracker::refusal::Refusal;
 
 pub mod line; // the text of a line
 
@@ -22,6 +25,24 @@ pub const MAX_SCRIPT: usize = 65536;
 
 // The `max_inflight` of the state that a replay begins with.
 pub const MAX_INFLIGHT: u64 = 256;
+
+// What is answered more than a refusal's number.
+const REFUSED: u64 = 4294967296;
+
+// Why there is no listing, each with its number in document 01, "Refusal numbers".
+#[derive(Clone, Copy)]
+enum Unlisted {
+    ScriptTooLong = 19, // over 65,536 bytes
+    ListingTooLong = 20, // longer than the output
+}
+
+impl Unlisted {
+    fn number(self) -> u64
+        ensures { result ≡ number_of self }
+    {
+        self as u64
+    }
+}
 
 // A record's kind: a change more on the pending list, which one being the byte's to say, or a run of that list.
 #[derive(Clone, Copy)]
@@ -124,24 +145,24 @@ impl Session {
 
     // What the pending list is answered.
     #[inline(always)]
-    fn answer_to(&self, run: Run) -> Answer
-        ensures { result ≡ answer_in self.now (byte_of run) }
+    fn answer_to(&self, run: Run) -> Result<Changed, Refusal>
+        ensures { answered self.now.tracker.conf result ≡ answer_in self.now (byte_of run) }
     {
         let n = self.len.min(changes::MAX_CHANGES);
         let ids = &self.ids[..n];
         let kinds = &self.kinds[..n];
         match run {
-            Run::Simple => simple(self.tracker, ids, kinds),
-            Run::Enter { auto_leave } => enter_joint(self.tracker, auto_leave, ids, kinds),
-            Run::Leave => leave_joint(self.tracker),
+            Run::Simple => simple(&self.tracker, ids, kinds),
+            Run::Enter { auto_leave } => enter_joint(&self.tracker, auto_leave, ids, kinds),
+            Run::Leave => leave_joint(&self.tracker),
         }
     }
 
-    // An accepted answer is applied; the pending list is emptied either way, and a line more is printed.
-    fn apply(&mut self, answer: Answer, next_idx: u64)
-        ensures { self.new ≡ applied_in self.old answer next_idx }
+    // An accepted answer is applied; the pending list is emptied either way, and a line more is printed. Why an answer is refused is in its line.
+    fn apply(&mut self, answer: Result<Changed, Refusal>, next_idx: u64)
+        ensures { self.new ≡ applied_in self.old (answered self.old.tracker.conf answer) next_idx }
     {
-        self.tracker = apply_answer(self.tracker, answer, next_idx).tracker;
+        let _ = apply_answer(&mut self.tracker, answer, next_idx);
         self.ids.fill(0);
         self.kinds.fill(0);
         self.len = 0; // nothing is pending
@@ -154,16 +175,25 @@ impl Session {
 pub fn dimecandle_replay(script: &[u8], out: &mut [u8]) -> u64
     ensures { (result ≡ replay_answer script.now (length out.old)) × (out.new ≡ replay_leaves script.now out.old) }
 {
+    match list(script, out) {
+        Ok(length) => length as u64,
+        Err(unlisted) => REFUSED + unlisted.number(),
+    }
+}
+
+// The listing at the front of `out`, and its length; nothing is put where it does not fit.
+fn list(script: &[u8], out: &mut [u8]) -> Result<usize, Unlisted>
+    ensures { (answer_as result ≡ replay_answer script.now (length out.old)) × (out.new ≡ replay_leaves script.now out.old) }
+{
     if MAX_SCRIPT < script.len() {
-        return numbers::SCRIPT_TOO_LONG;
+        return Err(Unlisted::ScriptTooLong);
     }
     let mut none = [0u8; 1];
-    let n = put_listing(script, &mut none);
-    if out.len() < n {
-        return numbers::LISTING_TOO_LONG;
+    let length = put_listing(script, &mut none);
+    if out.len() < length {
+        return Err(Unlisted::ListingTooLong);
     }
-    let m = put_listing(script, out);
-    m as u64
+    Ok(put_listing(script, out))
 }
 
 // The listing, as far as `out` goes; its whole length comes back.

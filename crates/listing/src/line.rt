@@ -5,22 +5,22 @@ ghost use Rattle.tracker.specs.Bridge.{conf_of, entry_of, log_of};
 ghost use Rattle.text.specs.Text.{group, ascii};
 ghost use Rattle.text.specs.Writes.{Writes};
 ghost use Rattle.listing.specs.Lines.{labelled, conf_text, entry_text, spaced_entry, log_text, ok_line, refused_line};
-ghost use Rattle.listing.specs.Sessions.{answer_text, sign_of};
+ghost use Rattle.listing.specs.Sessions.{result_text, sign_of};
 
-use changer::Answer;
+use changer::Changed;
 use idset::IdSet;
 use text::Output;
+use tracker::refusal::Refusal;
 use tracker::{ChangeLog, Configuration, MapChange, MapChangeType};
 
 // An accepted answer's line, or a refusal's.
 #[inline(never)]
-pub fn put_answer(to: &mut Output, k: u64, answer: &Answer)
-    ensures { Writes to.old (answer_text k answer.now) to.new }
+pub fn put_answer(to: &mut Output, k: u64, answer: &Result<Changed, Refusal>)
+    ensures { Writes to.old (result_text k answer.now) to.new }
 {
-    if answer.number == 0 {
-        put_ok(to, k, &answer.conf, &answer.log);
-    } else {
-        put_refused(to, k, answer.number, answer.id);
+    match answer {
+        Ok(changed) => put_ok(to, k, &changed.conf, &changed.log),
+        Err(refusal) => put_refused(to, k, refusal.number(), refusal.id()),
     }
 }
 
@@ -61,8 +61,7 @@ fn put_conf(to: &mut Output, conf: &Configuration)
 fn put_set(to: &mut Output, set: &IdSet)
     ensures { Writes to.old (group (held set.now)) to.new }
 {
-    let n = set.len.min(IdSet::CAPACITY);
-    to.put_group(&set.ids[..n]);
+    to.put_group(set.as_slice());
 }
 
 // A set that is not empty, after its label.

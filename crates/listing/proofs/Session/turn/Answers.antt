@@ -5,6 +5,7 @@ use mathlib.Core.Path.{◌≡◌, ◌∙◌}
 use Rattle.text.proofs.Outputs.{writes_none}
 use Rattle.listing.specs.Kinds.{byte_of}
 use Rattle.listing.specs.Sessions.{answer_in}
+use Rattle.listing.proofs.Answers.{result_line}
 use Rattle.listing.proofs.Records.{byte_is, run-answer, unknown-answer}
 use Rattle.listing.proofs.Turns.{change-shown, change-after, run-shown, run-after}
 use Rattle.listing.proofs.Session.turn.Goals as goal
@@ -23,4 +24,4 @@ returns c =
     ] in
     let e = c.answer_to-answer.ensures ∙ h.1 in
     let f = c.apply.ensures in
-    record { put = rw (run-shown _ _ _ h.0 e f) c.put_answer.ensures; after = run-after _ _ _ h.0 e f }
+    record { put = rw (run-shown _ _ _ h.0 e f, result_line _ _ _) c.put_answer.ensures; after = run-after _ _ _ h.0 e f }

@@ -1,7 +1,0 @@
--- `text::put_spaced` meets its contract. Assumes nothing.
-use native.Mathlib.Omega.{arith}
-use Rattle.text.proofs.Laws.{put_then}
-use Rattle.text.proofs.put_spaced.Goals as goal
-
-pub returns : goal.returns
-returns c = put_then (omega arith) c.put_byte-p.ensures c.put_decimal.ensures
