@@ -10,7 +10,7 @@ use Rattle.text.specs.declared.Output.{Output}
 use Rattle.text.proofs.Output.new.Reads as text-new
 use Rattle.text.proofs.Output.put_byte.Reads as text-put-byte
 use Rattle.text.proofs.Output.put_bytes.Reads as text-put-bytes
-use Rattle.text.proofs.Output.+put_decimal.Reads as text-put-decimal
+use Rattle.text.proofs.Output.put_decimal.Reads as text-put-decimal
 use Rattle.text.proofs.Output.put_group.Reads as text-put-group
 use Rattle.listing.proofs.dimecandle_replay.Reads as listing-replay
 use Rattle.listing.proofs.Session.begin.Reads as listing-begin

@@ -132,6 +132,7 @@ impl Session {
 
     // A change is added to the pending list; there is room, or the listing ended before.
     #[inline(never)]
+    #[tactic(auto, unfolding(crate::specs::Sessions::pend_in))]
     fn pend(&mut self, kind: u8, id: u64)
         ensures { self.new ≡ pend_in self.old kind id }
     {

@@ -9,8 +9,6 @@ use lib.ListN.{length}
 use Rattle.rules.specs.Unplug.{another}
 use Rattle.rules.proofs.Sets.{and_left, and_right}
 use Rattle.tracker.specs.Apply.{Verdict}
-use Rattle.tracker.specs.declared.Tracker.{Tracker}
-use Rattle.changer.specs.Before.{may_unplug}
 use Rattle.changer.specs.Calls.{unplug_of}
 use Rattle.changer.proofs.Unplug.{unplug-told}
 use Rattle.unplug.specs.Words.{at, within_by}
@@ -54,8 +52,7 @@ all_voters x = same_from_clauses (list_all (λ y. eqb y x)) (λ l. not (another 
 
 -- ** 1; 6; the check; 17
 
-pub unplug_tests : (t : Tracker) (x : ℕ) → unplug_of t x ≡ may_unplug t x
-unplug_tests = unplug-told
+pub ruleset unplug_tests = (unplug-told)
 
 -- ** What is told
 

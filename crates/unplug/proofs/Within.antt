@@ -1,11 +1,11 @@
 -- The loop that asks whether words are at most a bound, and what its answer says; f reads word k. Assumes nothing.
 use Prim.Native.Nat.{ℕ, suc, ◌+◌, ◌-◌, ◌*◌, ◌≤◌, ◌<◌}
 use mathlib.Core.Path.{◌≡◌, ap, sym, ◌∙◌}
-use mathlib.Core.Bool.{Bool, true, false, not, ◌&&◌}
+use mathlib.Core.Bool.{true, false, ◌&&◌}
 use native.Mathlib.Nat.{add-mul, mul-le-mul_right}
 use native.Mathlib.Omega.{arith}
 use lib.Dec.{leb}
-use borrow.Author.Tests.{le-leb, lt-leb, not-true, not-false}
+use borrow.Author.Tests.{le-leb, lt-leb}
 use Rattle.unplug.specs.Words.{within_by}
 
 -- the first i of n words are asked: what is left is to be asked of the others
@@ -48,12 +48,3 @@ module _ {f : ℕ → ℕ} {k n step most i : ℕ} (a : Asking f k n step most i
   ask-end h =
       let z : n - i ≡ 0 = omega arith in
       sym (ap (λ m. within_by m most step f (k + i * step)) z) ∙ a.same
-
--- ** A test that was refused, and one that was passed
-
-module _ {r a : Bool} (e : r ≡ a) where
-  pub test_no : not r ≡ true → a ≡ false
-  test_no t = sym e ∙ not-true r t
-
-  pub test_yes : not r ≡ false → a ≡ true
-  test_yes t = sym e ∙ not-false r t

@@ -5,10 +5,9 @@ use mathlib.Core.Bool.{Bool, true, false, ◌&&◌, cond, true≢false}
 use mathlib.Core.List.{List, ◌∷◌}
 use native.Mathlib.Omega.{arith}
 use borrow.Author.Tests.{eqb-true, eqb-false, leb-true}
-use lib.Dec.{eqb, leb, eqb-suc-zero}
+use lib.Dec.{eqb, leb}
 use lib.ListN.{length, take, drop}
 use lib.Seq.{drop-cons, drop-nil}
-use Rattle.rules.specs.Ids.{is_empty}
 use Rattle.rules.proofs.Sets.{and_left, and_right}
 use Rattle.progress.specs.Record.{is_probe, is_unused, unused_record}
 use Rattle.progress.specs.declared.Progress.{Progress}
@@ -27,12 +26,6 @@ part_words (suc n) k ws h =
     let e : suc k ≡ k + 1 = omega arith in
     ap (take (suc n)) (drop-cons ws k 0 (omega (arith, h)))
     ∙ ap (λ (l : List ℕ). at ws k ∷ l) (ap (λ (m : ℕ). take n (drop m ws)) e ∙ part_words n (k + 1) ws (omega (arith, h)))
-
--- of 64 words the first n are none where n is 0
-pub some_words : (f : ℕ → ℕ) (n k : ℕ) → is_empty (take n (words_by 64 f k)) ≡ eqb n 0
-unfolding words_by
-some_words f zero k = refl
-some_words f (suc n) k = sym (eqb-suc-zero n)
 
 -- ** Records
 

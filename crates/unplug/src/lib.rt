@@ -2,7 +2,7 @@
 // as the words of a STATE (docs/EMBEDDING.md) and read where they stand: no copy of it, no log and no configuration is made.
 #![tactic(auto)]
 
-ghost use Rattle.std.specs.Prelude.{◌≡◌, ℕ, true, not, ◌&&◌, ◌+◌, ◌*◌, ◌≤◌, length};
+ghost use Rattle.std.specs.Prelude.{◌≡◌, ℕ, true, not, ◌&&◌, ◌+◌, ◌*◌, ◌≤◌};
 ghost use Rattle.rules.specs.Unplug.{voter_left};
 ghost use Rattle.idset.specs.Set.{held, well_formed};
 ghost use Rattle.tracker.specs.Apply.{verdict_of};
@@ -23,6 +23,9 @@ use tracker::refusal::Refusal;
 
 pub mod layout; // the places in a STATE
 
+// A STATE in words.
+type State = [u64; WORDS];
+
 // Why words are no STATE: there are not 967, or no field can hold one of them.
 #[derive(Clone, Copy, Debug, PartialEq, Eq)]
 pub enum Unfit {
@@ -35,9 +38,9 @@ pub enum Unfit {
 pub fn unplug(state: &[u64], id: u64) -> Result<Result<(), Refusal>, Unfit>
     ensures { answered result ≡ answered_of state.now id }
 {
-    if state.len() != WORDS {
+    let Some(state) = state.as_array::<WORDS>() else {
         return Err(Unfit::Length);
-    }
+    };
     if !holds(state) {
         return Err(Unfit::Word);
     }
@@ -46,8 +49,8 @@ pub fn unplug(state: &[u64], id: u64) -> Result<Result<(), Refusal>, Unfit>
 
 // 1; 6; the check; 17.
 #[tactic(auto, using(crate::proofs::Unplugged::unplug_tests))]
-fn answer(s: &[u64], id: u64) -> Result<(), Refusal>
-    requires { (length s.now ≡ 967) × (state_holds_in s.now ≡ true) }
+fn answer(s: &State, id: u64) -> Result<(), Refusal>
+    requires { state_holds_in s.now ≡ true }
     ensures { verdict_of (said result) ≡ unplug_of (state_in s.now) id }
 {
     if malformed(s) {
@@ -64,7 +67,7 @@ fn answer(s: &[u64], id: u64) -> Result<(), Refusal>
 }
 
 // Word `k`, 0 where there is none.
-fn word(s: &[u64], k: usize) -> u64
+fn word(s: &State, k: usize) -> u64
     ensures { result ≡ word_in s.now k }
 {
     s.get(k).copied().unwrap_or(0)
@@ -72,7 +75,7 @@ fn word(s: &[u64], k: usize) -> u64
 
 // Whether every word can be held by its field: the flag, and of each record its state and its two flags.
 #[tactic(auto, unfolding(crate::specs::Unplugs::state_holds_in))]
-fn holds(s: &[u64]) -> bool
+fn holds(s: &State) -> bool
     ensures { result ≡ state_holds_in s.now }
 {
     at_most(|k| word(s, k), AUTO_LEAVE, 1, 1, 1)
@@ -114,8 +117,8 @@ pub fn at_most<F: Fn(usize) -> u64>(word: F, k: usize, n: usize, step: usize, mo
 }
 
 // Whether the state is malformed: one of its sets, or a record after the tracked ones that is not unused, which is ten zeros.
-fn malformed(s: &[u64]) -> bool
-    requires { (length s.now ≡ 967) × (state_holds_in s.now ≡ true) }
+fn malformed(s: &State) -> bool
+    requires { state_holds_in s.now ≡ true }
     ensures { result ≡ not (tracker_well_formed (state_in s.now)) }
 {
     if a_set_malformed(s) {
@@ -127,8 +130,7 @@ fn malformed(s: &[u64]) -> bool
 
 // Whether one of the sets is malformed.
 #[tactic(auto, unfolding(tracker::specs::Form::conf_well_formed))]
-fn a_set_malformed(s: &[u64]) -> bool
-    requires { length s.now ≡ 967 }
+fn a_set_malformed(s: &State) -> bool
     ensures { result ≡ not (conf_well_formed (state_in s.now).conf && well_formed (state_in s.now).ids) }
 {
     malformed_at(s, INCOMING)
@@ -139,8 +141,8 @@ fn a_set_malformed(s: &[u64]) -> bool
 }
 
 // Whether the set at `k` is malformed.
-fn malformed_at(s: &[u64], k: usize) -> bool
-    requires { k + 64 ≤ length s.now }
+fn malformed_at(s: &State, k: usize) -> bool
+    requires { k + 64 ≤ 967 }
     ensures { result ≡ not (well_formed (set_by (word_in s.now) k)) }
 {
     idset::malformed_in(
@@ -151,8 +153,7 @@ fn malformed_at(s: &[u64], k: usize) -> bool
 
 // The check.
 #[tactic(auto, unfolding(invariants::specs::Check::check_walk))]
-fn check(s: &[u64]) -> Result<(), Refusal>
-    requires { length s.now ≡ 967 }
+fn check(s: &State) -> Result<(), Refusal>
     ensures { said result ≡ own_check (state_in s.now) }
 {
     let incoming = held_at(s, INCOMING);
@@ -169,8 +170,8 @@ fn check(s: &[u64]) -> Result<(), Refusal>
 }
 
 // The ids that the set at `k` holds.
-fn held_at(s: &[u64], k: usize) -> &[u64]
-    requires { k + 64 ≤ length s.now }
+fn held_at(s: &State, k: usize) -> &[u64]
+    requires { k + 64 ≤ 967 }
     ensures { result.now ≡ held (set_by (word_in s.now) k) }
 {
     let ids = &s[k..k + IdSet::CAPACITY];

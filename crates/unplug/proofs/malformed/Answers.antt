@@ -2,7 +2,8 @@
 use mathlib.Core.Path.{◌≡◌, ◌∙◌}
 use mathlib.Core.Bool.{true}
 use native.Mathlib.Omega.{arith}
-use lib.ListN.{drop}
+use borrow.Author.Rules.{rules}
+use lib.ListN.{drop, length}
 use Rattle.rules.proofs.Sets.{and_right}
 use Rattle.idset.specs.Set.{well_formed}
 use Rattle.idset.proofs.Bridge.{formed}
@@ -23,6 +24,7 @@ overflow_mul-tracked c = let ok : well_formed (set_by (at c.args.s.now) 261) ≡
 pub returns : goal.returns
 unfolding tracker_well_formed
 returns c = let ws = c.args.s.now in
+    let long : length ws ≡ 967 = search rules in
     let rest : c.zero_from.result ≡ all_unused (drop (at ws 325) (records_by 64 (at ws) 326)) =
-    rw (c.word-tracked.ensures, part_words 640 326 ws (omega (arith, c.requires.0))) at c.zero_from.ensures ∙ records-zeros (at ws) 64 (at ws 325) 326 (records_paused ws c.requires.1) (records_active ws c.requires.1) in
+    rw (c.word-tracked.ensures, part_words 640 326 ws (omega arith)) at c.zero_from.ensures ∙ records-zeros (at ws) 64 (at ws 325) 326 (records_paused ws c.requires) (records_active ws c.requires) in
     rw (told_well c.a_set_malformed.ensures c.if-a_set_malformed.false, records_64 (at ws) 326, rest)

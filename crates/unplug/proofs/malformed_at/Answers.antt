@@ -1,11 +1,14 @@
 -- `unplug::malformed_at` meets its contract: the part that is lent is the set at that place. Assumes nothing.
-use Prim.Native.Nat.{◌+◌, ◌-◌}
+use Prim.Native.Nat.{◌+◌, ◌-◌, ◌≤◌}
 use mathlib.Core.Path.{◌≡◌}
 use native.Mathlib.Omega.{arith}
+use borrow.Author.Rules.{rules}
+use lib.ListN.{length}
 use Rattle.unplug.proofs.WordBlocks.{part_words}
 use Rattle.unplug.proofs.malformed_at.Goals as goal
 
 pub returns : goal.returns
 returns c = let a = c.args in
+    let room : a.k + 64 ≤ length a.s.now = search (rules, c.requires) in
     let long : a.k + 64 - a.k ≡ 64 = omega arith in
-    rw (long, part_words 64 a.k a.s.now c.requires, c.word.ensures) at c.malformed_in.ensures
+    rw (long, part_words 64 a.k a.s.now room, c.word.ensures) at c.malformed_in.ensures
