@@ -160,6 +160,7 @@ impl Session {
     }
 
     // An accepted answer is applied; the pending list is emptied either way, and a line more is printed. Why an answer is refused is in its line.
+    #[tactic(auto, unfolding(crate::specs::Sessions::applied_in))]
     fn apply(&mut self, answer: Result<Changed, Refusal>, next_idx: u64)
         ensures { self.new ≡ applied_in self.old (answered self.old.tracker.conf answer) next_idx }
     {
