@@ -215,14 +215,12 @@ fn from_answer(answer: Result<Changed, Refusal>, t: &Tracker) -> Reply
     ensures { result ≡ from_answer t.now (answered t.now.conf answer) }
 {
     match answer {
-        Ok(Changed { conf, log, idle }) => {
-            let tracker = Tracker { conf, ..*t };
-            Reply {
-                log,
-                idle,
-                ..accepted(&tracker)
-            }
-        }
+        Ok(Changed { conf, log, idle }) => Reply {
+            tracker: Tracker { conf, ..*t },
+            log,
+            idle,
+            ..accepted(t)
+        },
         Err(refusal) => refused(refusal, t),
     }
 }
