@@ -28,6 +28,9 @@ mod places; // the places in a request
 pub mod read; // a request
 pub mod write; // a reply
 
+// What is added to the number of a refusal where a length may be returned: more than any length.
+const REFUSED: u64 = 4294967296;
+
 // What a call answers.
 #[derive(Clone, Copy)]
 pub struct Reply {
@@ -106,7 +109,10 @@ fn unplugged(state: &[u64], id: u64, room: usize) -> Result<Result<(), Refusal>,
 pub fn dimecandle_read_conf_state(bytes: &[u8], conf_state: &mut [u64]) -> u64
     ensures { (result ≡ read_answer bytes.now (length conf_state.old)) × (conf_state.new ≡ read_leaves bytes.now conf_state.old) }
 {
-    confstate::read::read(bytes, conf_state)
+    match confstate::read::read(bytes, conf_state) {
+        Ok(()) => 0,
+        Err(refusal) => refusal.number(),
+    }
 }
 
 // A ConfState written from the words of a CONFSTATE to the front of `bytes`: its length, and the bytes after it are kept. Else 2^32 and the refusal, 1, 2 or
@@ -114,7 +120,10 @@ pub fn dimecandle_read_conf_state(bytes: &[u8], conf_state: &mut [u64]) -> u64
 pub fn dimecandle_write_conf_state(conf_state: &[u64], bytes: &mut [u8]) -> u64
     ensures { (result ≡ write_answer conf_state.now (length bytes.old)) × (bytes.new ≡ write_leaves conf_state.now bytes.old) }
 {
-    confstate::write::write(conf_state, bytes)
+    match confstate::write::write(conf_state, bytes) {
+        Ok(length) => length as u64,
+        Err(refusal) => REFUSED + refusal.number(),
+    }
 }
 
 // Where two ConfStates disagree: the lines to the front of `out`, every byte after them kept; their length comes back, 0 where both mean the same. Else 2^32
@@ -206,14 +215,12 @@ fn from_answer(answer: Result<Changed, Refusal>, t: &Tracker) -> Reply
     ensures { result ≡ from_answer t.now (answered t.now.conf answer) }
 {
     match answer {
-        Ok(Changed { conf, log, idle }) => {
-            let tracker = Tracker { conf, ..*t };
-            Reply {
-                log,
-                idle,
-                ..accepted(&tracker)
-            }
-        }
+        Ok(Changed { conf, log, idle }) => Reply {
+            tracker: Tracker { conf, ..*t },
+            log,
+            idle,
+            ..accepted(t)
+        },
         Err(refusal) => refused(refusal, t),
     }
 }

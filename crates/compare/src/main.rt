@@ -7,6 +7,7 @@ ghost use Rattle.std.specs.Io.KnownBytes.{Appends};
 ghost use Rattle.comparison.specs.Compare.{comparison};
 ghost use Rattle.streams.specs.Input.{len_read};
 
+use confstate::read::Refusal;
 use std::env::{Env, FillError};
 use std::fs::File;
 use std::io;
@@ -146,13 +147,12 @@ fn is_long<E: Write>(rt: &impl Env, i: usize, bytes: &[u8], errors: &mut E) -> b
 // Whether a file's message is refused, which is then said.
 fn is_faulty<E: Write>(rt: &impl Env, i: usize, bytes: &[u8], errors: &mut E) -> bool {
     let mut words = [0u64; confstate::WORDS];
-    let number = confstate::read::read(bytes, &mut words);
-    let then: &[u8] = match number {
-        0 => return false,
-        28 => b": refused 28: the message is cut short\n",
-        29 => b": refused 29: the message is malformed\n",
-        30 => b": refused 30: a list has more than 64 ids\n",
-        _ => return true,
+    let then: &[u8] = match confstate::read::read(bytes, &mut words) {
+        Ok(()) => return false,
+        Err(Refusal::CutShort) => b": refused 28: the message is cut short\n",
+        Err(Refusal::Malformed) => b": refused 29: the message is malformed\n",
+        Err(Refusal::LongList) => b": refused 30: a list has more than 64 ids\n",
+        Err(Refusal::FewWords) => return true,
     };
     say(rt, i, then, errors);
     true

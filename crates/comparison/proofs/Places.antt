@@ -8,7 +8,7 @@ use mathlib.Core.List.{List, [], ◌∷◌, ◌++◌, append_assoc}
 use native.Mathlib.Omega.{arith}
 use lib.Dec.{eqb}
 use lib.ListN.{length, take, drop, get_or, length-drop}
-use lib.Seq.{take-take, get_or-drop, drop-drop}
+use lib.Seq.{get_or-drop, drop-drop}
 use Rattle.text.specs.Put.{last}
 use Rattle.text.specs.Writes.{Writes}
 use Rattle.text.specs.declared.Output.{Output}

@@ -103,9 +103,9 @@ fn read_sets(bytes: &[u8], words: &mut [u64]) -> Result<(), Refusal>
     requires { length words.old ≡ 261 }
     ensures { SetsRead bytes.now (told_by result) words.new }
 {
-    let number = confstate::read::read(bytes, words);
+    let read = confstate::read::read(bytes, words);
     sets::sort_lists(words);
-    refusal::of_reader(number)
+    Ok(read?)
 }
 
 // `refused N`.

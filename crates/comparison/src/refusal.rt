@@ -1,7 +1,9 @@
 // Why two files have no lines: document 02, k) and l).
 ghost use Rattle.std.specs.Prelude.{◌≡◌};
-ghost use Rattle.rules.specs.Message.{Answered};
-ghost use Rattle.comparison.specs.Steps.{number_of, told_by};
+ghost use Rattle.confstate.specs.Refusals.{number_of as unread_number};
+ghost use Rattle.comparison.specs.Steps.{number_of};
+
+use confstate::read;
 
 // Each with the number that is printed and answered.
 #[derive(Clone, Copy)]
@@ -21,15 +23,16 @@ impl Refusal {
     }
 }
 
-// The reader's answer: 0, or the number of its refusal.
-pub fn of_reader(number: u64) -> Result<(), Refusal>
-    requires { Answered number }
-    ensures { told_by result ≡ number }
-{
-    match number {
-        0 => Ok(()),
-        28 => Err(Refusal::CutShort),
-        29 => Err(Refusal::Malformed),
-        _ => Err(Refusal::TooMany),
+// The reader's refusal, with the same number.
+impl From<read::Refusal> for Refusal {
+    ghost from_gives = { λ unread refusal. number_of refusal ≡ unread_number unread };
+
+    fn from(unread: read::Refusal) -> Refusal {
+        match unread {
+            read::Refusal::CutShort => Refusal::CutShort,
+            read::Refusal::Malformed => Refusal::Malformed,
+            read::Refusal::LongList => Refusal::TooMany,
+            read::Refusal::FewWords => Refusal::NoRoom,
+        }
     }
 }

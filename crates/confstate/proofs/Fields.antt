@@ -22,7 +22,7 @@ use Rattle.confstate.specs.Words.{flag_word, list_words, conf_state_words, list_
 use Rattle.confstate.specs.Steps.{Holding, Listing, Grows, stop, Takes, closed, held_at}
 use Rattle.confstate.specs.Refusals.{number_of, refusal_for, told}
 use Rattle.confstate.specs.declared.read.Refusal.{Refusal}
-use Rattle.confstate.specs.declared.read.Refusal.TheVariants.{CutShort, Malformed, LongList}
+use Rattle.confstate.specs.declared.read.Refusal.TheVariants.{CutShort, Malformed, LongList, FewWords}
 use Rattle.confstate.proofs.Words.{counted, count_set, id-set, told as told-count, listed-count, list_back, listing, list_of, with_list, replaced, block_in, block_out, list_few, flag-set}
 
 -- ** Its number
@@ -37,6 +37,7 @@ pub named : (d : Refusal) → number_of d ≡ 0 → ⊥
 named CutShort e = omega arith
 named Malformed e = omega arith
 named LongList e = omega arith
+named FewWords e = omega arith
 
 -- what a `?` gives back
 pub given_back : {A E : Type 0} {r : Result A E} {d : E} → IsErrAnd r (λ e. e ≡ d) → r ≡ Err d

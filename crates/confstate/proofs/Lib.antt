@@ -6,3 +6,4 @@ pub mod Tags
 pub mod Answers
 pub mod Sizing
 pub mod Writing
+pub mod Once

@@ -210,16 +210,17 @@ abbrev small : List ℕ → List ℕ → ℕ
 small ws old = cond (ltb (length old) (length (encoded (message_in ws)))) 31 0
 
 answer-refused : (ws old : List ℕ) {n : ℕ} → n ≡ refusal_of ws → (n ≡ 0 → ⊥)
-    → (4294967296 + n ≡ write_answer ws (length old)) × (old ≡ write_leaves ws old)
+    → (n ≡ write_number ws (length old)) × (4294967296 + n ≡ write_answer ws (length old)) × (old ≡ write_leaves ws old)
 unfolding refusal_of write_number write_answer write_leaves number_written buffer_written
 answer-refused ws old {n} e h = by (is_conf_state ws) (overlong (message_in ws)) e
   where
     by : (t o : Bool) → n ≡ cond t (cond o 2 0) 1
-        → (4294967296 + n ≡ cond (eqb (cond t (cond o 2 (small ws old)) 1) 0) (length (encoded (message_in ws))) (2 ^ 32 + cond t (cond o 2 (small ws old)) 1))
+        → (n ≡ cond t (cond o 2 (small ws old)) 1)
+        × (4294967296 + n ≡ cond (eqb (cond t (cond o 2 (small ws old)) 1) 0) (length (encoded (message_in ws))) (2 ^ 32 + cond t (cond o 2 (small ws old)) 1))
         × (old ≡ cond t (cond (eqb (cond o 2 (small ws old)) 0) (encoded (message_in ws) ++ drop (length (encoded (message_in ws))) old) old) old)
-    by true true e = (omega arith, refl)
+    by true true e = (e, omega arith, refl)
     by true false e = absurd (h e)
-    by false o e = (omega arith, refl)
+    by false o e = (e, omega arith, refl)
 
 number-some : (d : Unwritten) → unwritten_number d ≡ 0 → ⊥
 number-some NoConfState e = omega arith
@@ -227,11 +228,11 @@ number-some LongList e = omega arith
 number-some SmallOutput e = omega arith
 
 pub answer-unwritten : (ws old : List ℕ) {x : Result (Unit {0}) Unwritten} {r : Result ℕ Unwritten} {d : Unwritten} → said x ≡ refusal_of ws → x ≡ Err d → r ≡ Err d
-    → (answered r ≡ write_answer ws (length old)) × (old ≡ write_leaves ws old)
+    → (said r ≡ write_number ws (length old)) × (answered r ≡ write_answer ws (length old)) × (old ≡ write_leaves ws old)
 answer-unwritten ws old {x} {r} {d} e y z =
     let n : unwritten_number d ≡ refusal_of ws = sym (ap said y) ∙ e in
     let a = answer-refused ws old n (number-some d) in
-    (ap answered z ∙ a.0, a.1)
+    (ap said z ∙ a.0, ap answered z ∙ a.1, a.2)
 
 module _ {ws : List ℕ} (w : Writable ws) where
   words-yes : is_conf_state ws ≡ true
@@ -242,14 +243,14 @@ module _ {ws : List ℕ} (w : Writable ws) where
   words-few = rw (le-ltb _ _ w.few.voters, le-ltb _ _ w.few.learners, le-ltb _ _ w.few.voters_outgoing, le-ltb _ _ w.few.learners_next)
 
   pub answer-small : (old : List ℕ) → length old < length (encoded (message_in ws))
-      → (4294967296 + 31 ≡ write_answer ws (length old)) × (old ≡ write_leaves ws old)
+      → (31 ≡ write_number ws (length old)) × (4294967296 + 31 ≡ write_answer ws (length old)) × (old ≡ write_leaves ws old)
   unfolding write_number write_answer write_leaves number_written buffer_written
-  answer-small old h = (rw (words-yes, words-few, lt-ltb _ _ h), rw (words-yes, words-few, lt-ltb _ _ h))
+  answer-small old h = (rw (words-yes, words-few, lt-ltb _ _ h), rw (words-yes, words-few, lt-ltb _ _ h), rw (words-yes, words-few, lt-ltb _ _ h))
 
   pub answer-written : (old : List ℕ) → length old ≤ last → length (encoded (message_in ws)) ≤ length old
       → {new : List ℕ} {n : ℕ} → Put old 0 (encoded (message_in ws)) new n
-      → (n ≡ write_answer ws (length old)) × (new ≡ write_leaves ws old)
+      → (0 ≡ write_number ws (length old)) × (n ≡ write_answer ws (length old)) × (new ≡ write_leaves ws old)
   unfolding write_number write_answer write_leaves number_written buffer_written
   answer-written old h k f =
       let a = put_whole h f k in
-      (rw (words-yes, words-few, le-ltb _ _ k) a.1, rw (words-yes, words-few, le-ltb _ _ k) a.0)
+      (rw (words-yes, words-few, le-ltb _ _ k), rw (words-yes, words-few, le-ltb _ _ k) a.1, rw (words-yes, words-few, le-ltb _ _ k) a.0)

@@ -3,13 +3,14 @@ use Rattle.std.specs.Prelude.{ℕ, Result, Ok, Err}
 use Rattle.wire.specs.declared.Fault.{Fault}
 use Rattle.wire.specs.declared.Fault.TheVariants as wire
 use Rattle.confstate.specs.declared.read.Refusal.{Refusal}
-use Rattle.confstate.specs.declared.read.Refusal.TheVariants.{CutShort, Malformed, LongList}
+use Rattle.confstate.specs.declared.read.Refusal.TheVariants.{CutShort, Malformed, LongList, FewWords}
 
 -- its number: docs/EMBEDDING.md
 abbrev pub number_of : Refusal → ℕ
 number_of CutShort = 28
 number_of Malformed = 29
 number_of LongList = 30
+number_of FewWords = 100
 
 -- what a number's fault makes of its field
 abbrev pub refusal_for : Fault → Refusal

@@ -10,7 +10,7 @@ unwritten_number LongList = 2
 unwritten_number SmallOutput = 31
 
 -- 0, or the refusal's number
-abbrev pub said : Result (Unit {0}) Unwritten → ℕ
+abbrev pub said : {A : Type 0} → Result A Unwritten → ℕ
 said (Ok x) = 0
 said (Err r) = unwritten_number r
 

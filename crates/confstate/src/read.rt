@@ -5,31 +5,35 @@ ghost use Rattle.rules.specs.Wire.{numbered, single as single_of, length_in, var
 ghost use Rattle.rules.specs.Message.{all, faulty, grown, lower, packed as packed_in, read as read_of};
 ghost use Rattle.confstate.specs.Words.{conf_state_words, flag_word, list_in, message_in};
 ghost use Rattle.confstate.specs.Entries.{read_answer, read_leaves};
-ghost use Rattle.confstate.specs.Refusals.{number_of, refusal_for};
+ghost use Rattle.confstate.specs.Refusals.{number_of, refusal_for, told};
 ghost use Rattle.confstate.specs.Steps.{Holding, Listing, Grows, Reads, Takes, held_at, field_at, fixed_at};
 
 use crate::{FLAG, IDS, LIST, WORDS};
 use wire::Fault;
 
-// Why a message is refused.
+// Why a message is not read.
 #[derive(Clone, Copy, Debug, PartialEq, Eq)]
-enum Refusal {
+pub enum Refusal {
     // It ends within a field.
     CutShort,
     // A field is none, or none of its number's.
     Malformed,
     // A list of more than 64 ids.
     LongList,
+    // The words that are lent are fewer than 261.
+    FewWords,
 }
 
 impl Refusal {
-    fn number(self) -> u64
+    // As docs/EMBEDDING.md has it.
+    pub fn number(self) -> u64
         ensures { result ≡ number_of self }
     {
         match self {
             Refusal::CutShort => 28,
             Refusal::Malformed => 29,
             Refusal::LongList => 30,
+            Refusal::FewWords => 100,
         }
     }
 }
@@ -45,31 +49,26 @@ impl From<Fault> for Refusal {
     }
 }
 
-// What is told of a message that is read, and of too few words.
-const READ: u64 = 0;
-
-const TOO_FEW_WORDS: u64 = 100;
-
 // The numbers of the fields: the lists in the order of their words, then the flag; those after it are unknown.
 const FLAG_FIELD: u64 = 5;
 
 const LAST_FIELD: u64 = 536870911;
 
-// Reads a message into the words of a CONFSTATE: 0; or the refusal, and four empty lists and a false flag. The words after them are kept. Less than 261
-// words: 100, and they are as they were.
-pub fn read(bytes: &[u8], conf_state: &mut [u64]) -> u64
-    ensures { (result ≡ read_answer bytes.now (length conf_state.old)) × (conf_state.new ≡ read_leaves bytes.now conf_state.old) }
+// Reads a message into the words of a CONFSTATE; a refused one gives four empty lists and a false flag. The words after them are kept. Of less than 261
+// words all are as they were.
+pub fn read(bytes: &[u8], conf_state: &mut [u64]) -> Result<(), Refusal>
+    ensures { (told result ≡ read_answer bytes.now (length conf_state.old)) × (conf_state.new ≡ read_leaves bytes.now conf_state.old) }
 {
     if conf_state.len() < WORDS {
-        return TOO_FEW_WORDS;
+        return Err(Refusal::FewWords);
     }
     let words = &mut conf_state[..WORDS];
     words.fill(0);
     match fields(bytes, words) {
-        Ok(()) => READ,
+        Ok(()) => Ok(()),
         Err(refusal) => {
             words.fill(0);
-            refusal.number()
+            Err(refusal)
         }
     }
 }

@@ -3,7 +3,7 @@ ghost use Rattle.std.specs.Prelude.{◌≡◌, ◌+◌, ◌*◌, ◌≤◌, ◌<
 ghost use Rattle.rules.specs.Message.{packed_of, list_field, flag_field, encoded};
 ghost use Rattle.text.specs.Put.{Put};
 ghost use Rattle.confstate.specs.Words.{list_in, message_in};
-ghost use Rattle.confstate.specs.Entries.{write_answer, write_leaves};
+ghost use Rattle.confstate.specs.Entries.{write_number, write_answer, write_leaves};
 ghost use Rattle.confstate.specs.Unwritten.{unwritten_number, answered, said};
 ghost use Rattle.confstate.specs.Sizes.{refusal_of, sizes_of, field_size, total_of, Writable, Block, Listable};
 
@@ -11,7 +11,7 @@ use crate::{FLAG, IDS, LEARNERS, NEXT, OUTGOING, VOTERS, WORDS};
 
 // Why a message is not written.
 #[derive(Clone, Copy, Debug, PartialEq, Eq)]
-enum Unwritten {
+pub enum Unwritten {
     // The words are no CONFSTATE.
     NoConfState,
     // A list of more than 64 ids.
@@ -21,7 +21,8 @@ enum Unwritten {
 }
 
 impl Unwritten {
-    fn number(self) -> u64
+    // As docs/EMBEDDING.md has it.
+    pub fn number(self) -> u64
         ensures { result ≡ unwritten_number self }
     {
         match self {
@@ -41,28 +42,15 @@ struct Sizes {
     next: usize,
 }
 
-// What is added to the number of a refusal: more than any length.
-const REFUSED: u64 = 4294967296;
-
 // The tag of a list, less its field's number times 8: a length and as many bytes.
 const LIST_TAG: u8 = 2;
 
 // The tag of the flag: field 5, a varint.
 const FLAG_TAG: u8 = 8 * 5;
 
-// Writes the message to the front of `bytes`: its length. Else 2^32 and the refusal, and the bytes are as they were.
-pub fn write(conf_state: &[u64], bytes: &mut [u8]) -> u64
-    ensures { (result ≡ write_answer conf_state.now (length bytes.old)) × (bytes.new ≡ write_leaves conf_state.now bytes.old) }
-{
-    match write_message(conf_state, bytes) {
-        Ok(length) => length as u64,
-        Err(refusal) => REFUSED + refusal.number(),
-    }
-}
-
-// The same, its length or why not.
-fn write_message(conf_state: &[u64], bytes: &mut [u8]) -> Result<usize, Unwritten>
-    ensures { (answered result ≡ write_answer conf_state.now (length bytes.old)) × (bytes.new ≡ write_leaves conf_state.now bytes.old) }
+// Writes the message to the front of `bytes`: its length. The bytes of a message that is not written are as they were.
+pub fn write(conf_state: &[u64], bytes: &mut [u8]) -> Result<usize, Unwritten>
+    ensures { (said result ≡ write_number conf_state.now (length bytes.old)) × (answered result ≡ write_answer conf_state.now (length bytes.old)) × (bytes.new ≡ write_leaves conf_state.now bytes.old) }
 {
     check(conf_state)?;
     let s = count(conf_state);

@@ -1,6 +1,6 @@
 -- `confstate::read::read` meets its contract. Assumes nothing.
 use Prim.Native.Nat.{ℕ}
-use mathlib.Core.Path.{ap, ◌∙◌}
+use mathlib.Core.Path.{refl, ap, ◌∙◌}
 use borrow.Author.Rules.{rules}
 use lib.ListN.{replicate}
 use Rattle.confstate.proofs.Answers.{too_short, zeros, accepted, refusing}
@@ -18,5 +18,5 @@ returns-in-Ok c = accepted c.args.bytes.now c.args.conf_state.now c.if-conf_stat
 pub returns-in-Err : goal.returns-in-Err
 returns-in-Err c =
     let e = c.fill-in-Err.ensures.after (λ y h. search rules) ∙ ap (λ (n : ℕ). replicate n 0) (c.fields.auto.words ∙ c.fill.ensures.len) in
-    refusing c.args.bytes.now c.args.conf_state.now c.if-conf_state-lt-WORDS.false _ _ c.fields.ensures c.in-Err.is c.number.ensures
+    refusing c.args.bytes.now c.args.conf_state.now c.if-conf_state-lt-WORDS.false _ _ c.fields.ensures c.in-Err.is refl
     (zeros c.args.bytes.now c.args.conf_state.now c.if-conf_state-lt-WORDS.false e)

@@ -1,11 +1,11 @@
--- `write::write_message` meets its contract: the words are refused, the slice is too small, or the message is put. Assumes nothing.
+-- `write::write` meets its contract: the words are refused, the slice is too small, or the message is put. Assumes nothing.
 use native.Mathlib.Omega.{arith}
 use mathlib.Core.Path.{ap}
 use Rattle.confstate.specs.Unwritten.{said}
 use Rattle.confstate.proofs.Fields.{given_back}
 use Rattle.confstate.proofs.Sizing.{writable, sizes_few, counted-length}
 use Rattle.confstate.proofs.Writing.{answer-unwritten, answer-small, answer-written}
-use Rattle.confstate.proofs.write.write_message.Goals as goal
+use Rattle.confstate.proofs.write.write.Goals as goal
 
 pub returns-in_err-check : goal.returns-in_err-check
 returns-in_err-check c = answer-unwritten c.args.conf_state.now c.args.bytes.now c.check.ensures c.in_err-check.was (given_back c.from_residual.ensures.1)
