@@ -72,7 +72,7 @@ pub record Texts : Type 0 where
 
 pub text : Texts
 text = record {
-  new = λ κs a z y e d h k i. (equation z.bytes.now y.bytes.now h.1 k.1 i, equation z.at y.at h.2 k.2 i);
+  new = λ κs a z y e d h k i. (equation z.bytes.now y.bytes.now h.1.0 k.1.0 i, equation z.at y.at h.1.1 k.1.1 i);
   put_byte = search written-settled;
   put-bytes = search written-settled;
   put-decimal = search written-settled;
