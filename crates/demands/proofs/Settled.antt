@@ -38,6 +38,7 @@ use Rattle.idset.proofs.malformed_in.Reads as idset-malformed-in
 use Rattle.idset.proofs.zero_from.Reads as idset-zero-from
 use Rattle.idset.proofs.seek.Reads as idset-seek
 use Rattle.idset.proofs.stands_at.Reads as idset-stands-at
+use Rattle.idset.proofs.next_of.Reads as idset-next-of
 use Rattle.idset.proofs.two_apart.Reads as idset-two-apart
 use Rattle.idset.proofs.dimecandle_two_apart.Reads as idset-dimecandle-two-apart
 use Rattle.tracker.proofs.Configuration.new.Reads as tracker-configuration-new
@@ -135,6 +136,7 @@ pub record Sets : Type 0 where
   pub zero_from : Settles idset-zero-from.Learnt
   pub seek : Settles idset-seek.Learnt
   pub stands_at : Settles idset-stands-at.Learnt
+  pub next_of : Settles idset-next-of.Learnt
   pub two_apart : Settles idset-two-apart.Learnt
   pub dimecandle_two_apart : Settles idset-dimecandle-two-apart.Learnt
 

@@ -14,7 +14,9 @@ use Rattle.rules.specs.Restore.{all}
 use Rattle.tracker.specs.Bridge.{entries_in}
 use Rattle.tracker.specs.declared.ConfState.{ConfState}
 use Rattle.tracker.specs.declared.IdList.{IdList}
-use Rattle.restore.specs.Steps.{Appended, Listed, Pushed, entered, ids_in, kinds_in}
+use Rattle.restore.specs.Steps.{Appended, Listed, Pushed, code, entered, ids_in, kinds_in, listed, no_changes, number_in, pushed}
+use Rattle.changes.specs.declared.table.Kind.{Kind}
+use Rattle.changes.specs.declared.table.Kind.TheVariants.{AddNode, AddLearnerNode, RemoveNode}
 use Rattle.restore.specs.declared.Changes.{Changes}
 
 -- ** Reading
@@ -80,17 +82,38 @@ In c cs = Reads (ids_in c) (kinds_in c) cs
 one_more : {c r : Changes} {l : IdList} {cs : List Change} (k : ℕ) → k ≤ 2 → In c cs → Appended c l k r → In r (cs ++ all (kind_of k) (entries_in l))
 one_more {c} {r} {l} {cs} k h i a = rw (a.ids, a.kinds) (reads_append i (reads_all k h (entries_in l)))
 
+listed_append : (c : Changes) (cs ds : List Change) → listed c (cs ++ ds) ≡ listed (listed c cs) ds
+unfolding listed
+listed_append c [] ds = refl
+listed_append c (d ∷ cs) ds = listed_append (pushed c d.id (code d.kind)) cs ds
+
 -- the four lists one behind the other
-pub listed-all : (cs : ConfState) (c₀ c₁ c₂ c₃ c₄ : Changes) → c₀.len ≡ 0
+pub listed-all : (cs : ConfState) (c₀ c₁ c₂ c₃ c₄ : Changes) → c₀ ≡ no_changes
     → Appended c₀ cs.voters_outgoing 1 c₁ → Appended c₁ cs.voters 0 c₂ → Appended c₂ cs.learners 2 c₃ → Appended c₃ cs.learners_next 2 c₄
     → Listed c₄ (entered cs)
 listed-all cs c₀ c₁ c₂ c₃ c₄ z a b d e =
     record {
-      few = omega (arith, a.count, a.few, b.count, b.few, d.count, d.few, e.count, e.few);
-      reads = reads-readable i₄ (omega (arith, length-take c₄.len c₄.ids, a.count, a.few, b.count, b.few, d.count, d.few, e.count, e.few));
+      few = omega (arith, ap (λ (c : Changes). c.len) z, a.count, a.few, b.count, b.few, d.count, d.few, e.count, e.few);
+      reads = reads-readable i₄ (omega (arith, length-take c₄.len c₄.ids, ap (λ (c : Changes). c.len) z, a.count, a.few, b.count, b.few, d.count, d.few, e.count, e.few));
       says = i₄.says ∙ simp append_assoc;
+      is =
+          e.is ∙ ap (λ (c : Changes). listed c staged)
+          (d.is ∙ ap (λ (c : Changes). listed c learners) (b.is ∙ ap (λ (c : Changes). listed c voters) (a.is ∙ ap (λ (c : Changes). listed c outgoing) z)))
+          ∙ sym (listed_append no_changes outgoing (voters ++ (learners ++ staged)) ∙ listed_append _ voters (learners ++ staged) ∙ listed_append _ learners staged);
     }
   where
+    outgoing : List Change
+    outgoing = all remove_node (entries_in cs.voters_outgoing)
+
+    voters : List Change
+    voters = all add_node (entries_in cs.voters)
+
+    learners : List Change
+    learners = all add_learner (entries_in cs.learners)
+
+    staged : List Change
+    staged = all add_learner (entries_in cs.learners_next)
+
     i₀ : In c₀ []
     i₀ = rw z reads_none
 
@@ -99,6 +122,11 @@ listed-all cs c₀ c₁ c₂ c₃ c₄ z a b d e =
 
 -- ** The turns of `append`
 
+pub coded : (k : Kind) → code (kind_of (number_in k)) ≡ number_in k
+coded AddNode = refl
+coded RemoveNode = refl
+coded AddLearnerNode = refl
+
 -- the ids of `left`, of those of l, are not yet behind c₀: c has the others there
 pub record Appending (c₀ : Changes) (l : IdList) (k : ℕ) (c : Changes) (left : List ℕ) : Type 0 where
   pub few : length (entries_in l) ≤ 64
@@ -106,30 +134,35 @@ pub record Appending (c₀ : Changes) (l : IdList) (k : ℕ) (c : Changes) (left
   pub count : c.len + length left ≡ c₀.len + length (entries_in l)
   pub ids : ids_in c ++ left ≡ ids_in c₀ ++ entries_in l
   pub kinds : kinds_in c ++ replicate (length left) k ≡ kinds_in c₀ ++ replicate (length (entries_in l)) k
+  pub is : listed c (all (kind_of k) left) ≡ listed c₀ (all (kind_of k) (entries_in l))
 
 pub appending_start : (c : Changes) (l : IdList) (k : ℕ) {left : List ℕ} → length l.ids ≡ 64 → c.len ≤ 192 → left ≡ entries_in l → Appending c l k c left
-appending_start c l k h g e = record { few = omega (arith, length-take l.len l.ids); room = rw e (omega (arith, length-take l.len l.ids)); count = rw e; ids = rw e; kinds = rw e }
+appending_start c l k h g e = record { few = omega (arith, length-take l.len l.ids); room = rw e (omega (arith, length-take l.len l.ids)); count = rw e; ids = rw e; kinds = rw e; is = rw e }
 
 module _ {c₀ c : Changes} {l : IdList} {k : ℕ} {left : List ℕ} (s : Appending c₀ l k c left) where
   pub appending_end : left ≡ [] → Appended c₀ l k c
+  unfolding listed all
   appending_end e =
       record {
         few = s.few;
         count = omega (arith, rw e at s.count);
         ids = sym (append-nil (ids_in c)) ∙ (rw e at s.ids);
         kinds = sym (append-nil (kinds_in c)) ∙ (rw e at s.kinds);
+        is = rw e at s.is;
       }
 
   module _ {x : ℕ} {xs : List ℕ} (e : left ≡ x ∷ xs) where
     pub appending_room : c.len < 256
     appending_room = omega (arith, rw e at s.room)
 
-    pub appending_next : {r : Changes} → Pushed c x k r → Appending c₀ l k r xs
-    appending_next {r} p =
+    pub appending_next : {r : Changes} → Pushed c x k r → code (kind_of k) ≡ k → Appending c₀ l k r xs
+    unfolding listed all
+    appending_next {r} p h =
         record {
           few = s.few;
           room = omega (arith, rw e at s.room, p.count);
           count = omega (arith, rw e at s.count, p.count);
           ids = rw p.ids (append_assoc (ids_in c) (x ∷ []) xs ∙ (rw e at s.ids));
           kinds = rw p.kinds (append_assoc (kinds_in c) (k ∷ []) (replicate (length xs) k) ∙ (rw e at s.kinds));
+          is = ap (λ (r : Changes). listed r (all (kind_of k) xs)) (p.is ∙ ap (pushed c x) (sym h)) ∙ (rw e at s.is);
         }

@@ -11,7 +11,7 @@ ghost use Rattle.tracker.specs.Bridge.{entries_in, lists_of};
 ghost use Rattle.tracker.specs.Form.{tracker_well_formed};
 ghost use Rattle.changer.specs.Calls.{simple_answer, answered};
 ghost use Rattle.restore.specs.Restore.{applied_to, too_long, steps_of, step_by_step_of, restore_of};
-ghost use Rattle.restore.specs.Steps.{Appended, Listed, Pushed, entered, joint_steps, number_in};
+ghost use Rattle.restore.specs.Steps.{Appended, Listed, Pushed, entered, joint_steps, no_changes, number_in};
 
 use changer::{Changed, enter_joint, simple};
 use changes::table::Kind;
@@ -150,7 +150,7 @@ pub fn apply_answer(
 
 // Translates a conf state into the operations that, when applied to the config made of the outgoing voters, represent it: remove each outgoing,
 // add each voter, add-learner each learner, then each staged.
-fn to_conf_change_single(cs: &ConfState) -> Changes
+pub fn to_conf_change_single(cs: &ConfState) -> Changes
     ensures { Listed result (entered cs.now) }
 {
     let mut list = Changes::new();
@@ -164,7 +164,7 @@ fn to_conf_change_single(cs: &ConfState) -> Changes
 impl Changes {
     // No change.
     fn new() -> Self
-        ensures { result.len ≡ 0 }
+        ensures { result ≡ no_changes }
     {
         Changes {
             ids: [0; changes::MAX_CHANGES],

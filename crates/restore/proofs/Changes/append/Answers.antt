@@ -2,7 +2,7 @@
 use Rattle.changer.proofs.Taken.{taken-next, taken-none}
 use borrow.Author.Rules.{rules}
 use Rattle.tracker.proofs.Sizes.{list_sized}
-use Rattle.restore.proofs.Lists.{appending_end, appending_next, appending_room, appending_start}
+use Rattle.restore.proofs.Lists.{coded, appending_end, appending_next, appending_room, appending_start}
 use Rattle.restore.proofs.Changes.append.Goals as goal
 
 pub loop-id-init : goal.loop-id-init
@@ -12,7 +12,7 @@ pub push-requires : goal.push-requires
 push-requires c = appending_room c.loop-id.invariant (taken-next _ c.in-Some.ensures.steps)
 
 pub loop-id-preserved : goal.loop-id-preserved
-loop-id-preserved c = appending_next c.loop-id.invariant (taken-next _ c.in-Some.ensures.steps) c.push.ensures
+loop-id-preserved c = appending_next c.loop-id.invariant (taken-next _ c.in-Some.ensures.steps) c.push.ensures (coded _)
 
 pub returns : goal.returns
 returns c = appending_end c.loop-id.invariant (taken-none _ _ c.in-None.ensures.steps)
