@@ -2,8 +2,14 @@
 -- holds. `Learnt` is as in proofs/Settled.antt. Assumes nothing.
 use Prim.Native.Nat.{ℕ}
 use Prim.{Unit}
-use mathlib.Core.Path.{◌≡◌, refl}
+use mathlib.Core.Path.{◌≡◌, refl, sym, ◌∙◌}
 use mathlib.Core.List.{List}
+use Rattle.std.specs.Prelude.{Result}
+use Rattle.confstate.specs.Refusals.{told}
+use Rattle.confstate.specs.Unwritten.{answered, said}
+use Rattle.confstate.specs.declared.read.Refusal as read
+use Rattle.confstate.specs.declared.write.Unwritten.{Unwritten}
+use Rattle.confstate.proofs.Once.{told_once, written_once}
 use Rattle.text.specs.Put.{Put}
 use Rattle.text.specs.Writes.{Writes}
 use Rattle.text.specs.declared.Output.{Output}
@@ -115,8 +121,16 @@ pub record Messages : Type 0 where
   pub put-comparison : SettlesLeft comparison-put.Learnt (λ κs e. held_by e.0.now)
   pub compare : SettlesLeft comparison-compare.Learnt (λ κs e. e.1.1.0.now)
 
+-- what the reader answers, and the words
+unread : {r q : Result (Unit {0}) read.Refusal} {n : ℕ} {v m l : List ℕ} → (told r ≡ n) × (m ≡ v) → (told q ≡ n) × (l ≡ v) → (r ≡ q) × (m ≡ l)
+unread {r = r} {q = q} {m = m} {l = l} a b = (told_once r q (a.0 ∙ sym b.0), equation m l a.1 b.1)
+
+-- what the writer answers, and the bytes
+unwritten : {r q : Result ℕ Unwritten} {n w : ℕ} {v m l : List ℕ} → (said r ≡ n) × (answered r ≡ w) × (m ≡ v) → (said q ≡ n) × (answered q ≡ w) × (l ≡ v) → (r ≡ q) × (m ≡ l)
+unwritten {r = r} {q = q} {m = m} {l = l} a b = (written_once r q (a.0 ∙ sym b.0) (a.1 ∙ sym b.1), equation m l a.2 b.2)
+
 pub messages : Messages
-messages = search (equation, put-settled, written-settled, both)
+messages = search (equation, put-settled, written-settled, unread, unwritten, both)
 
 -- ** calls
 
