@@ -1,10 +1,10 @@
 // A call made on a state, and a line printed: what is asked, in the paper's words, and what is answered. An accepted answer is applied; the state that is
 // left comes back.
 use crate::answered::{Checked, Restored, Told};
-use crate::given::{Change, Changes, fresh};
+use crate::given::{Change, LastStep, fresh};
 use changer::{Changed, enter_joint, leave_joint};
 use progress::Progress;
-use restore::apply_answer;
+use restore::{Changes, apply_answer, to_conf_change_single};
 use std::io;
 use tracker::refusal::Refusal;
 use tracker::{ConfState, Tracker};
@@ -61,15 +61,20 @@ fn kinds_of(list: &[Change]) -> [u8; MOST] {
     kinds
 }
 
-// `enter_joint` with a list that says itself what is asked.
-pub(crate) fn enter_list(
+// `enter_joint` with the list of a restore's last step, which says itself what is asked.
+pub(crate) fn enter_last(
     rt: &impl Print,
     asked: &str,
     t: Tracker,
-    list: Changes,
+    cs: ConfState,
 ) -> io::Result<Tracker> {
-    print!(rt; "{asked}enter {list}")?;
-    enter(rt, ": ", t, list.as_slice())
+    let list = to_conf_change_single(&cs);
+    let step = LastStep(list);
+    print!(rt; "{asked}enter {step}")?;
+    let Changes { ids, kinds, len } = list;
+    let n = len.min(changes::MAX_CHANGES);
+    let answer = enter_joint(&t, false, &ids[..n], &kinds[..n]);
+    told(rt, ": ", t, answer)
 }
 
 // `leave_joint`.

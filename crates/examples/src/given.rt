@@ -1,5 +1,5 @@
 // What the examples begin from: states, the kinds of a change, and the lists that are restored.
-use restore::restore;
+use restore::{Changes, restore};
 use std::fmt;
 use tracker::{ConfState, IdList, Tracker};
 
@@ -87,64 +87,26 @@ pub(crate) fn outgoing_first(cs: ConfState) -> ConfState {
     conf_state(cs.voters_outgoing, none(), none(), none())
 }
 
-// A change list: the first `len` of these.
+// The list of a restore's last step, as it is printed: `remove 1, add 2`.
 #[derive(Clone, Copy)]
-pub(crate) struct Changes {
-    changes: [Change; changes::MAX_CHANGES],
-    len: usize,
-}
+pub(crate) struct LastStep(pub(crate) Changes);
 
-impl Changes {
-    fn new() -> Changes {
-        Changes {
-            changes: [Change::Add(0); changes::MAX_CHANGES],
-            len: 0,
-        }
-    }
-
-    // One change more, where there is room for it.
-    fn push(&mut self, change: Change) {
-        let n = self.len;
-        if n < changes::MAX_CHANGES {
-            self.changes[n] = change;
-            self.len = n + 1;
-        }
-    }
-
-    pub(crate) fn as_slice(&self) -> &[Change] {
-        &self.changes[..self.len.min(changes::MAX_CHANGES)]
-    }
-}
-
-// `remove 1, add 2`.
-impl fmt::Display for Changes {
+impl fmt::Display for LastStep {
     fn fmt<W: fmt::Write>(&self, f: &mut fmt::Formatter<W>) -> fmt::Result {
-        for (i, change) in self.as_slice().iter().enumerate() {
+        let n = self.0.len.min(changes::MAX_CHANGES);
+        for (i, id) in self.0.ids[..n].iter().enumerate() {
             if i != 0 {
                 write!(f, ", ")?;
             }
+            let change = match self.0.kinds.get(i) {
+                Some(0) => Change::Add(*id),
+                Some(1) => Change::Remove(*id),
+                _ => Change::Learner(*id),
+            };
             write!(f, "{change}")?;
         }
         Ok(())
     }
-}
-
-// The list of a restore's last step: remove each outgoing, add each voter, add-learner each learner, then each staged.
-pub(crate) fn last_step(cs: ConfState) -> Changes {
-    let mut list = Changes::new();
-    for id in cs.voters_outgoing.ids.iter().take(cs.voters_outgoing.len) {
-        list.push(Change::Remove(*id));
-    }
-    for id in cs.voters.ids.iter().take(cs.voters.len) {
-        list.push(Change::Add(*id));
-    }
-    for id in cs.learners.ids.iter().take(cs.learners.len) {
-        list.push(Change::Learner(*id));
-    }
-    for id in cs.learners_next.ids.iter().take(cs.learners_next.len) {
-        list.push(Change::Learner(*id));
-    }
-    list
 }
 
 // The empty list.

@@ -131,7 +131,7 @@ fn example_11(rt: &impl Print) -> io::Result<()> {
         "11 its steps before the last, fresh, restore voters (1 2 4 6): ",
         given::outgoing_first(cs),
     )?;
-    ask::enter_list(rt, "11 its last step: ", before, given::last_step(cs))?;
+    ask::enter_last(rt, "11 its last step: ", before, cs)?;
     ask::leave(rt, "11 leave: ", t)?;
     Ok(())
 }
