@@ -67,7 +67,7 @@ pub record RefusedUntouched (t : Tracker) : Type 0 where
   pub simple : (ids kinds : List ℕ) → AnswerUntouched t (simple_answer t ids kinds)
   pub enter : (auto : Bool) (ids kinds : List ℕ) → AnswerUntouched t (enter_answer t auto ids kinds)
   pub leave : AnswerUntouched t (leave_answer t)
-  -- apply_answer, of any answer; apply
+  -- apply_answer, of any answer; apply_conf
   pub apply-answer : (a : Answer) (n : ℕ) → StateUntouched t (applied_to t a n)
   pub apply : (c : Configuration) (log : ChangeLog) (n : ℕ) → StateUntouched t (apply_of t c log n)
   -- apply_conf, lent t: it answers v and holds u at exit

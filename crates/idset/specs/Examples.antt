@@ -105,7 +105,7 @@ walked = (refl, refl, refl, refl, refl, refl)
 pub found :
     -- `contains` that looks at one place less
     (memb 5 (held s15) ≡ true)
-    -- `contains` that finds 0 in unused places; `contains_in` that ignores `len`
+    -- `contains` that finds 0 in unused places; `contains_in` that looks past its slice
     × (memb 0 (held s15) ≡ false)
     -- `contains_in` that stops at the first greater id
     × (memb 1 (take 2 (5 ∷ 1 ∷ [])) ≡ true)
@@ -113,19 +113,19 @@ pub found :
     × (0 + rank 5 (drop 0 (take 2 (1 ∷ 5 ∷ []))) ≡ 1)
     -- `seek` that starts at 0
     × (1 + rank 1 (drop 1 (take 2 (1 ∷ 5 ∷ []))) ≡ 1)
-    -- `seek` that goes past `len`
+    -- `seek` that goes past the end
     × (0 + rank 6 (drop 0 (take 1 (1 ∷ 5 ∷ []))) ≡ 1)
     -- `stands_at` that is always no
     × (first_is 5 (drop 1 (take 2 (1 ∷ 5 ∷ []))) ≡ true)
-    -- `stands_at` that looks past `len`
+    -- `stands_at` that looks past its slice
     × (first_is 5 (drop 1 (take 1 (1 ∷ 5 ∷ []))) ≡ false)
     -- `stands_at` that is true past the end
     × (first_is 5 (drop 2 (take 9 (1 ∷ 5 ∷ []))) ≡ false)
-    -- `is_past` that is always yes
+    -- a place that is taken for one past the end
     × (is_empty (drop 1 (take 2 (1 ∷ 5 ∷ []))) ≡ false)
-    -- `is_past` that looks past `len`
+    -- a place past the end that is taken for one of the ids
     × (is_empty (drop 1 (take 1 (1 ∷ 5 ∷ []))) ≡ true)
-    -- `is_past` that looks past the end
+    -- one further past the end
     × (is_empty (drop 2 (take 9 (1 ∷ 5 ∷ []))) ≡ true)
 unfolding set_of memb rank first_is
 found = (refl, refl, refl, refl, refl, refl, refl, refl, refl, refl, refl, refl)

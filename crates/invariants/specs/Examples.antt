@@ -29,13 +29,13 @@ pub walked :
     × (first_out (1 ∷ 3 ∷ []) (1 ∷ 2 ∷ 3 ∷ []) ≡ None)
     -- that begins anew at each id: on lists that do not ascend the walk does not meet 1
     × (first_out (5 ∷ 1 ∷ []) (1 ∷ 5 ∷ []) ≡ Some 1)
-    -- that looks past `n`
+    -- that looks past the first slice
     × (first_out (take 1 (2 ∷ [])) (take 1 (1 ∷ 2 ∷ [])) ≡ Some 2)
     -- with `among`, a `first_where` that gives the last
     × (first_in (1 ∷ 2 ∷ 3 ∷ []) (2 ∷ 3 ∷ []) ≡ Some 2)
     -- that begins anew at each id
     × (first_in (5 ∷ 1 ∷ []) (1 ∷ 6 ∷ []) ≡ None)
-    -- that looks past `m`
+    -- that looks past the second slice
     × (first_in (take 1 (1 ∷ 2 ∷ [])) (take 1 (2 ∷ [])) ≡ None)
 unfolding first_out first_in rank first_is
 walked = (refl, refl, refl, refl, refl, refl, refl)

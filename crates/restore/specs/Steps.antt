@@ -1,4 +1,4 @@
--- What the private functions of `restore` answer: a change list in arrays, and the steps where there are outgoing voters. Assumes nothing.
+-- What the steps of `restore` answer: a change list in arrays, and the steps where there are outgoing voters. Assumes nothing.
 use Rattle.std.specs.Prelude.{ℕ, ◌+◌, ◌≤◌, ◌≡◌, List, [], ◌∷◌, ◌++◌, length, take, set, replicate}
 use Rattle.rules.specs.State as State
 use Rattle.rules.specs.State.{Change, add_learner, add_node, remove_node}

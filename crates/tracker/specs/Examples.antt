@@ -115,7 +115,7 @@ pub well_formed_or_not :
 unfolding tracker_well_formed conf_well_formed well_formed ascending above zeros all_unused is_unused set_of record_places records_of ids log_well_formed all_blank is_blank change_log_of map_changes_of
 well_formed_or_not = (refl, refl, refl, refl, refl, refl, refl, refl, refl, refl, refl)
 
--- What `apply` answers; `apply_conf` answers its number and id, and the tracker that it is lent holds the state at exit.
+-- What `apply_conf` answers, and the state that it leaves in the tracker that it is lent.
 pub applied :
     -- an Add that keeps the old record; `apply_conf` that stores only the configuration
     (apply_of (tracker_of old) (configuration_of no_conf) (change_log_of (add 1 ∷ remove 5 ∷ [])) 77 ≡ record { number = 0; id = 0; tracker = tracker_of renewed })
@@ -123,7 +123,7 @@ pub applied :
     × (apply_of used (configuration_of no_conf) (change_log_of []) 77 ≡ refused_of used 1 0)
     × (apply_of (tracker_of old) down.conf (change_log_of []) 77 ≡ refused_of (tracker_of old) 1 0)
     × (apply_of (tracker_of old) (configuration_of no_conf) long 77 ≡ refused_of (tracker_of old) 1 0)
-    -- `refused` that drops the id; that gives a fresh state
+    -- a refusal that drops the id; that gives a fresh state
     × ((refused_of (tracker_of old) 16 65).id ≡ 65)
     × ((refused_of (tracker_of old) 16 65).tracker.conf.incoming.len ≡ 1)
 unfolding apply_of tracker_well_formed conf_well_formed well_formed ascending above zeros all_unused is_unused set_of record_places records_of peers_of ids log_well_formed all_blank is_blank change_log_of map_changes_of entries_of apply_conf formed conf_formed log_formed room enrol track untrack memb insert_id remove_id

@@ -1,5 +1,5 @@
 // The state of a group as its leader tracks it: src/tracker.rs, the membership half. Sets are `IdSet`s, the progress map is the tracked
-// ids with a record at the same place, `Vec` logs are a count and an array, `Result`s a number and an id.
+// ids with a record at the same place, `Vec` logs are a count and an array.
 #![tactic(auto)]
 
 ghost use Rattle.std.specs.Prelude.{◌≡◌, []};
