@@ -1,7 +1,6 @@
 -- `apply_conf`: three tests, then the log; nothing has changed where it is refused. Assumes nothing.
 use borrow.Author.Rules.{rules}
 use Rattle.std.proofs.lemmas.Result.{err_from_is_err_and}
-use native.Mathlib.Omega.{arith}
 use Rattle.tracker.specs.Apply.{apply_of}
 use Rattle.tracker.proofs.Bridge.{log-parts, rostered}
 use Rattle.tracker.proofs.Answers.{passed}
@@ -23,10 +22,10 @@ returns-in_err-enrol c =
     let p = err_from_is_err_and c.from_residual.result c.from_residual.ensures.1 in
     rw (p.1, p.2)
     (apply-full _ _ _ _ (passed _ _ c.is_malformed.ensures c.if-is_malformed.false) (passed _ _ c.is_malformed-else-is_malformed.ensures c.if-is_malformed-2.false)
-    (passed _ _ c.is_malformed-else-is_malformed-2.ensures c.if-is_malformed-3.false) _ _ _ c.in_err-enrol.ensures.value (grind arith))
+    (passed _ _ c.is_malformed-else-is_malformed-2.ensures c.if-is_malformed-3.false) _ _ _ c.in_err-enrol.ensures.value (search))
 
 pub returns : goal.returns
 returns c =
     apply-done _ _ _ _ (passed _ _ c.is_malformed.ensures c.if-is_malformed.false) (passed _ _ c.is_malformed-else-is_malformed.ensures c.if-is_malformed-2.false)
     (passed _ _ c.is_malformed-else-is_malformed-2.ensures c.if-is_malformed-3.false) _ _ c.fresh-fresh.ensures c.in_ok-enrol.ensures.value _ c.roster.invariant c.roster.view_is
-    c.in_ok-enrol.ensures.after (grind arith)
+    c.in_ok-enrol.ensures.after (search)
