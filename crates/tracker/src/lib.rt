@@ -109,6 +109,9 @@ impl IdList {
 impl Tracker {
     pub const CAPACITY: usize = 64;
 
+    // The last place.
+    pub const LAST: usize = Self::CAPACITY - 1;
+
     // The fresh state.
     pub fn new(max_inflight: u64) -> Self
         ensures { result ≡ tracker_of (fresh max_inflight) }
