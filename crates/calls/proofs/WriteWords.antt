@@ -1,5 +1,5 @@
 -- Words that are put into an output one after the other. Assumes nothing.
-use Prim.Native.Nat.{ℕ, ◌≤◌}
+use Prim.Native.Nat.{ℕ, ◌+◌, ◌≤◌}
 use mathlib.Core.Path.{◌≡◌, refl, ap, sym, ◌∙◌}
 use mathlib.Core.List.{List, [], ◌∷◌, ◌++◌, append_assoc, append-nil}
 use Rattle.progress.specs.declared.Progress.{Progress}
@@ -12,7 +12,12 @@ use Rattle.text.specs.Text.{each}
 use Rattle.std.specs.Int.{w64, to_le_bytes}
 use native.Mathlib.Nat.{div-div-eq-div-mul}
 use native.Mathlib.Omega.{arith}
-use lib.ListN.{length}
+use lib.ListN.{length, take, drop}
+use lib.Seq.{sets, sets-eq}
+use borrow.Rule.Slice.Mut.{set_vals}
+use borrow.Rule.Slice.PartMut.{put_mid}
+use Rattle.std.proofs.lemmas.List.Edits.{paste_all}
+use Rattle.std.proofs.lemmas.Slice.{put_mid-paste}
 use Rattle.text.specs.Put.{last}
 use Rattle.text.specs.Writes.{Writes}
 use Rattle.text.specs.declared.Output.{Output}
@@ -31,6 +36,18 @@ piece_then h f k = writes_then h f (k (omega (arith, writes_length f)))
 pub word_le : (n : ℕ) → to_le_bytes w64 n ≡ word_bytes n
 unfolding bytes word_bytes
 word_le n = simp div-div-eq-div-mul
+
+-- a part of a slice that holds it
+part_whole : (l x ys : List ℕ) (at k : ℕ) → at + length x ≤ length l → ys ≡ x → k ≡ length x → put_mid at k l ys ≡ sets l at x
+part_whole l x ys at k h e n = put_mid-paste at k l ys x k e refl n ∙ paste_all l at x k n ∙ ap (λ (m : ℕ). take at l ++ (x ++ drop (at + m) l)) n ∙ sym (append_assoc (take at l) x (drop (at + length x) l)) ∙ sym (sets-eq x l at h)
+
+-- a word, where the output has room for it
+pub word_fits : {o : Output} {ys : List ℕ} {k : ℕ} (n : ℕ) → o.at + 8 ≤ length o.bytes.now → o.at + 8 ≤ last → ys ≡ to_le_bytes w64 n → k ≡ 8 → Writes o (word_bytes n) (record { bytes = set_vals (put_mid o.at k o.bytes.now ys) o.bytes; at = o.at + 8 })
+unfolding bytes word_bytes
+word_fits {o} {ys} {k} n h l e m = record {
+  same = refl;
+  put = record { bytes = part_whole o.bytes.now (word_bytes n) ys o.at k h (e ∙ word_le n) m; end = omega arith };
+}
 
 -- ** Words
 

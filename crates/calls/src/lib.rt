@@ -144,7 +144,8 @@ fn number_and_id(answer: Result<(), Refusal>) -> (u64, u64)
     }
 }
 
-// What `call` answers to a request.
+// What `call` answers to a request. Kept out of its caller: its locals are cleared on entry, which a request that is refused before is spared.
+#[inline(never)]
 fn reply_to(s: &[u8], call: Call) -> Reply
     ensures { result ≡ reply_for s.now call }
 {

@@ -1,13 +1,13 @@
 // A request, read off its bytes: docs/EMBEDDING.md. Places are counted in words.
 ghost use Rattle.std.specs.Prelude.{◌≡◌, ◌+◌, ◌*◌, ◌≤◌, length, min, take};
 ghost use Rattle.unplug.specs.Words.{state_named};
-ghost use Rattle.calls.specs.Layout.{number, word as word_at, words as words_at, kind_named, set_at, list_at, conf_at, record_at, records_at, state_at, entries_at, log_at, conf_state_at, kinds_at, change_list_at, state_holds, list_holds, holds as holds_in};
+ghost use Rattle.calls.specs.Layout.{number, word as word_at, words as words_at, kind_named, set_at, list_at, conf_at, record_at, records_at, state_at, entries_at, log_at, conf_state_at, kinds_at, change_list_at, within, state_holds, list_holds, holds as holds_in};
 
 use crate::places::{AUTO_LEAVE, CONF, CONF_STATE, LIST, LOG, NEXT_IDX, STATE};
 use idset::IdSet;
 use progress::{Progress, ProgressState};
 use tracker::{ChangeLog, ConfState, Configuration, IdList, MapChange, MapChangeType, Tracker};
-use unplug::{at_most, layout};
+use unplug::layout;
 
 // The LIST: ids and kinds, and how many of each.
 #[derive(Clone, Copy)]
@@ -52,11 +52,11 @@ pub fn holds(s: &[u8]) -> bool
     ensures { result ≡ holds_in s.now }
 {
     state_holds(s, STATE)
-        && at_most(|k| word(s, k), AUTO_LEAVE, 1, 1, 1)
+        && at_most(s, AUTO_LEAVE, 1, 1, 1)
         && list_holds(s, LIST)
-        && at_most(|k| word(s, k), CONF + layout::AUTO_LEAVE, 1, 1, 1)
-        && at_most(|k| word(s, k), LOG + 1, ChangeLog::CAPACITY, 2, 1)
-        && at_most(|k| word(s, k), CONF_STATE + layout::AUTO_LEAVE, 1, 1, 1)
+        && at_most(s, CONF + layout::AUTO_LEAVE, 1, 1, 1)
+        && at_most(s, LOG + 1, ChangeLog::CAPACITY, 2, 1)
+        && at_most(s, CONF_STATE + layout::AUTO_LEAVE, 1, 1, 1)
 }
 
 // The STATE of a request.
@@ -114,16 +114,35 @@ pub fn conf_state(s: &[u8]) -> ConfState
     }
 }
 
-// The 8 bytes from `at` on as a number, the least significant first; a byte that is not there counts as 0.
+// The 8 bytes from `at` on as a number, the least significant first; a byte that is not there counts as 0. Where all are there they are read at once.
 fn number_at(s: &[u8], at: usize) -> u64
     requires { at ≤ length s.now }
     ensures { result ≡ number 8 s.now at }
 {
+    if 8 <= s.len() - at {
+        if let Some(bytes) = s[at..at + 8].as_array::<8>() {
+            return u64::from_le_bytes(*bytes);
+        }
+    }
     let mut bytes = [0u8; 8];
     for i in 0..8 {
         bytes[i] = s.get(at + i).copied().unwrap_or(0);
     }
     u64::from_le_bytes(bytes)
+}
+
+// Whether `n` words from `k` on, `step` apart, are at most `most`. Put into its caller, where `n` and `step` are known.
+#[inline(always)]
+fn at_most(s: &[u8], k: usize, n: usize, step: usize, most: u64) -> bool
+    requires { k + n * step ≤ 4096 }
+    ensures { result ≡ within n most step s.now k }
+{
+    for i in 0..n {
+        if most < word(s, k + i * step) {
+            return false;
+        }
+    }
+    true
 }
 
 // The flag of the CONF, and of each RECORD its state and its two flags.
@@ -132,23 +151,23 @@ fn state_holds(s: &[u8], k: usize) -> bool
     ensures { result ≡ state_holds s.now k }
 {
     let records = k + layout::RECORDS;
-    at_most(|k| word(s, k), k + layout::AUTO_LEAVE, 1, 1, 1)
+    at_most(s, k + layout::AUTO_LEAVE, 1, 1, 1)
         && at_most(
-            |k| word(s, k),
+            s,
             records + layout::RECORD_STATE,
             Tracker::CAPACITY,
             layout::RECORD,
             2,
         )
         && at_most(
-            |k| word(s, k),
+            s,
             records + layout::PAUSED,
             Tracker::CAPACITY,
             layout::RECORD,
             1,
         )
         && at_most(
-            |k| word(s, k),
+            s,
             records + layout::RECENT_ACTIVE,
             Tracker::CAPACITY,
             layout::RECORD,
@@ -163,15 +182,9 @@ fn list_holds(s: &[u8], k: usize) -> bool
 {
     let most = ChangeList::CAPACITY as u64;
     let kinds = k + ChangeList::CAPACITY + 1;
-    at_most(|k| word(s, k), k + ChangeList::CAPACITY, 1, 1, most)
-        && at_most(
-            |k| word(s, k),
-            kinds,
-            ChangeList::CAPACITY,
-            1,
-            u64::from(u8::MAX),
-        )
-        && at_most(|k| word(s, k), kinds + ChangeList::CAPACITY, 1, 1, most)
+    at_most(s, k + ChangeList::CAPACITY, 1, 1, most)
+        && at_most(s, kinds, ChangeList::CAPACITY, 1, u64::from(u8::MAX))
+        && at_most(s, kinds + ChangeList::CAPACITY, 1, 1, most)
 }
 
 // A CONF.

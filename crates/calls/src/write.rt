@@ -23,11 +23,18 @@ pub fn put_reply(to: &mut Output, r: &Reply)
     put_word(to, r.idle as u64);
 }
 
-// 8 bytes, the least significant first.
+// 8 bytes, the least significant first; at once where there is room for all.
 fn put_word(to: &mut Output, n: u64)
     ensures { Writes to.old (word_bytes n) to.new }
 {
-    to.put_bytes(&n.to_le_bytes());
+    let bytes = n.to_le_bytes();
+    let at = to.at;
+    if at < to.bytes.len() && 8 <= to.bytes.len() - at {
+        to.bytes[at..at + 8].copy_from_slice(&bytes);
+        to.at = at + 8;
+        return;
+    }
+    to.put_bytes(&bytes);
 }
 
 fn put_flag(to: &mut Output, b: bool)
