@@ -64,5 +64,8 @@ pub fn put_flag(to: &mut Output, first: bool, second: bool)
 fn put_if(to: &mut Output, wanted: bool, text: &[u8])
     ensures { Writes to.old (cond wanted text.now []) to.new }
 {
-    to.put_bytes(if wanted { text } else { b"" });
+    let _at = to.at; // Read, so that it is known that the place is a usize.
+    if wanted {
+        to.put_bytes(text);
+    }
 }

@@ -4,7 +4,8 @@ use mathlib.Core.Path.{◌≡◌, refl, ◌∙◌}
 use mathlib.Core.List.{List, [], ◌++◌}
 use lib.ListN.{length, get_or}
 use Rattle.text.specs.Text.{each}
-use Rattle.text.specs.Put.{last}
+use borrow.Rule.Slice.Mut.{set_vals}
+use Rattle.text.specs.Put.{Put, last}
 use Rattle.text.specs.Writes.{Writes}
 use Rattle.text.specs.declared.Output.{Output}
 use Rattle.text.proofs.Laws.{Passing, pass_start, pass_next, pass_end, pass_length, put_none, put_then, put-length}
@@ -12,6 +13,10 @@ use Rattle.text.proofs.Laws.{Passing, pass_start, pass_next, pass_end, pass_leng
 -- the empty text
 pub writes_none : {o : Output} → o.at ≤ last → Writes o [] o
 writes_none h = record { same = refl; put = put_none h }
+
+-- what is put into the slice of an output, at its place
+pub writes_put : {o : Output} {x n : List ℕ} {p : ℕ} → Put o.bytes.now o.at x n p → Writes o x (record { bytes = set_vals n o.bytes; at = p })
+writes_put f = record { same = refl; put = f }
 
 -- one text after another
 pub writes_then : {o p q : Output} {x y : List ℕ} → length o.bytes.now ≤ last → Writes o x p → Writes p y q → Writes o (x ++ y) q

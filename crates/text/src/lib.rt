@@ -4,6 +4,7 @@
 
 ghost use Rattle.std.specs.Prelude.{[], ◌∷◌, ◌≡◌};
 ghost use Rattle.text.specs.Text.{decimal, spaced, words, group};
+ghost use Rattle.text.specs.Put.{Put};
 ghost use Rattle.text.specs.Writes.{Writes};
 
 // A lent slice, and the place where the next text goes, in it or past its end.
@@ -23,22 +24,22 @@ impl<'a> Output<'a> {
         Output { bytes, at: 0 }
     }
 
-    // A byte. The place after the last one is its own.
+    // A byte. The place moves on by one; the largest stays.
     pub fn put_byte(&mut self, b: u8)
         ensures { Writes self.old (b ∷ []) self.new }
     {
-        if self.at < self.bytes.len() {
-            self.bytes[self.at] = b;
-        }
-        self.at = self.at.saturating_add(1);
+        self.at = put_at(self.bytes, self.at, b);
     }
 
+    // Bytes. The place is a local through the loop: in the output it would be read and written in memory at each byte.
     pub fn put_bytes(&mut self, s: &[u8])
         ensures { Writes self.old s.now self.new }
     {
+        let mut at = self.at;
         for b in s {
-            self.put_byte(*b);
+            at = put_at(self.bytes, at, *b);
         }
+        self.at = at;
     }
 
     // The number in decimal.
@@ -82,4 +83,14 @@ impl<'a> Output<'a> {
         self.put_words(xs);
         self.put_byte(b')');
     }
+}
+
+// A byte at the place `at`, where the slice has that place. The place after it comes back; after the largest it is the largest.
+fn put_at(bytes: &mut [u8], at: usize, b: u8) -> usize
+    ensures { Put bytes.old at (b ∷ []) bytes.new result }
+{
+    if at < bytes.len() {
+        bytes[at] = b;
+    }
+    at.saturating_add(1)
 }
