@@ -9,7 +9,7 @@ ghost use Rattle.listing.specs.Kinds.{byte_of, IsByteOf};
 ghost use Rattle.listing.specs.Script as script;
 ghost use Rattle.listing.specs.Lines.{stopped_line};
 ghost use Rattle.listing.specs.Listing.{ending, listing, replay_answer, replay_leaves};
-ghost use Rattle.listing.specs.Unlisted.{number_of, answer_as};
+ghost use Rattle.listing.specs.Unlisted.{answer_as};
 ghost use Rattle.listing.specs.Sessions.{session_of, begin_in, answer_in, pend_in, applied_in, after_in, shown_in};
 
 use changer::{Changed, enter_joint, leave_joint, simple};
@@ -26,22 +26,16 @@ pub const MAX_SCRIPT: usize = 65536;
 // The `max_inflight` of the state that a replay begins with.
 pub const MAX_INFLIGHT: u64 = 256;
 
-// What is answered more than a refusal's number.
-const REFUSED: u64 = 4294967296;
+// What is answered where there is no listing: 2^32, and 19 or 20 of document 01, "Refusal numbers".
+pub const SCRIPT_TOO_LONG: u64 = 4294967315;
 
-// Why there is no listing, each with its number in document 01, "Refusal numbers".
+pub const LISTING_TOO_LONG: u64 = 4294967316;
+
+// Why there is no listing.
 #[derive(Clone, Copy)]
 enum Unlisted {
-    ScriptTooLong = 19, // over 65,536 bytes
-    ListingTooLong = 20, // longer than the output
-}
-
-impl Unlisted {
-    fn number(self) -> u64
-        ensures { result ≡ number_of self }
-    {
-        self as u64
-    }
+    ScriptTooLong, // 19: over 65,536 bytes
+    ListingTooLong, // 20: longer than the output
 }
 
 // A record's kind: a change more on the pending list, which one being the byte's to say, or a run of that list.
@@ -179,7 +173,8 @@ pub fn dimecandle_replay(script: &[u8], out: &mut [u8]) -> u64
 {
     match list(script, out) {
         Ok(length) => length as u64,
-        Err(unlisted) => REFUSED + unlisted.number(),
+        Err(Unlisted::ScriptTooLong) => SCRIPT_TOO_LONG,
+        Err(Unlisted::ListingTooLong) => LISTING_TOO_LONG,
     }
 }
 
