@@ -2,9 +2,10 @@
 use Rattle.demands.proofs.Settled as lone
 use Rattle.demands.proofs.Lent as lent
 
-pub record Settled : Type 0 where
+pub record Settled : Type 2 where
   pub progress : lone.Progresses
   pub idset : lone.Sets
+  pub slices : lone.Slices
   pub tracker : lone.Trackers
   pub invariants : lone.Invariants
   pub changes : lone.Changes
@@ -19,6 +20,7 @@ all_settled =
     record {
       progress = lone.progress;
       idset = lone.idset;
+      slices = lone.slices;
       tracker = lone.tracker;
       invariants = lone.invariants;
       changes = lone.changes;

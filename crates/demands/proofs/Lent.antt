@@ -38,6 +38,7 @@ use Rattle.wire.proofs.put_varint.Reads as wire-put-varint
 use Rattle.confstate.proofs.read.read.Reads as confstate-read
 use Rattle.confstate.proofs.write.write.Reads as confstate-write
 use Rattle.confstate.proofs.read.Refusal.number.Reads as confstate-read-number
+use Rattle.confstate.proofs.read.RefusalFromFault.from.Reads as confstate-refusal-from
 use Rattle.confstate.proofs.write.Unwritten.number.Reads as confstate-write-number
 use Rattle.comparison.proofs.put_comparison.Reads as comparison-put
 use Rattle.comparison.proofs.compare.Reads as comparison-compare
@@ -121,6 +122,7 @@ pub record Messages : Type 0 where
   pub read : SettlesLeft confstate-read.Learnt (λ κs e. e.1.0.now)
   pub write : SettlesLeft confstate-write.Learnt (λ κs e. e.1.0.now)
   pub read_number : Settles confstate-read-number.Learnt
+  pub refusal-from : Settles confstate-refusal-from.Learnt
   pub write_number : Settles confstate-write-number.Learnt
   pub put-comparison : SettlesLeft comparison-put.Learnt (λ κs e. held_by e.0.now)
   pub compare : SettlesLeft comparison-compare.Learnt (λ κs e. e.1.1.0.now)

@@ -1,23 +1,22 @@
 -- Of each public contract of the crates up to restore and unplug, two results that it allows are equal, and so is what it leaves of a value that is
 -- lent: a line for each public function. `Learnt` is Rattle's own reading of the `ensures` in src/, what a caller learns of arguments and result.
 -- Assumes nothing.
-use Prim.Native.Nat.{ℕ}
+use denote.RattleType.{RattleType}
+use denote.Param.Laws.{Laws, IsCopy}
+use mir.Syntax.{Dict}
 use mathlib.Core.Path.{◌≡◌, refl, ap, ◌∙◌, sym}
-use mathlib.Core.Bool.{Bool, true, false, true≢false}
-use mathlib.Core.List.{List}
+use mathlib.Core.Bool.{Bool, true≢false}
+use Rattle.std.specs.declared.clone.Clone.{Ghosts}
 use Rattle.std.specs.Prelude.{Result, Ok, Err}
 use Rattle.rules.specs.Answers as rules
 use Rattle.idset.specs.Set.{Inserted, Removed, United, inserted, removed, united}
 use Rattle.idset.specs.declared.IdSet.{IdSet}
 use Rattle.idset.specs.declared.Full.{Full}
 use Rattle.tracker.specs.Apply.{Verdict, Outcome, verdict_of, outcome_left}
-use Rattle.tracker.specs.ConfStates.{Written, written_told}
 use Rattle.tracker.specs.Refusals.{said}
 use Rattle.tracker.specs.declared.Tracker.{Tracker}
 use Rattle.tracker.specs.declared.refusal.Refusal.{Refusal}
 use Rattle.tracker.proofs.Refusals.{said_once, verdict_once, left_once, written_once, unit_once}
-use Rattle.changer.specs.Calls.{Answer, answered}
-use Rattle.changer.specs.declared.Changed.{Changed}
 use Rattle.unplug.specs.Unplugs.{answered as told-unplug}
 use Rattle.unplug.specs.declared.Unfit.{Unfit}
 use Rattle.changer.proofs.Answered.{answered_once}
@@ -34,6 +33,8 @@ use Rattle.idset.proofs.IdSet.insert.Reads as idset-insert
 use Rattle.idset.proofs.IdSet.remove.Reads as idset-remove
 use Rattle.idset.proofs.IdSet.union.Reads as idset-union
 use Rattle.idset.proofs.contains_in.Reads as idset-contains-in
+use Rattle.idset.proofs.slices.insert_at.Reads as idset-insert-at
+use Rattle.idset.proofs.slices.remove_at.Reads as idset-remove-at
 use Rattle.idset.proofs.malformed_in.Reads as idset-malformed-in
 use Rattle.idset.proofs.zero_from.Reads as idset-zero-from
 use Rattle.idset.proofs.seek.Reads as idset-seek
@@ -51,6 +52,8 @@ use Rattle.tracker.proofs.Tracker.is_malformed.Reads as tracker-tracker-is-malfo
 use Rattle.tracker.proofs.MapChange.is_blank.Reads as tracker-is-blank
 use Rattle.tracker.proofs.apply.apply_conf.Reads as tracker-apply-conf
 use Rattle.tracker.proofs.Tracker.to_conf_state.Reads as tracker-to-conf-state
+use Rattle.tracker.proofs.conf_state.ConfStateFromConfiguration.from.Reads as tracker-conf-state-from
+use Rattle.tracker.proofs.conf_state.IdListFromIdSet.from.Reads as tracker-list-from
 use Rattle.tracker.proofs.refusal.Refusal.number.Reads as tracker-number
 use Rattle.tracker.proofs.refusal.Refusal.id.Reads as tracker-id
 use Rattle.invariants.proofs.joint.Reads as invariants-joint
@@ -66,6 +69,7 @@ use Rattle.changes.proofs.change.Reads as changes-change
 use Rattle.changes.proofs.push.Reads as changes-push
 use Rattle.changes.proofs.pending.is_tracked.Reads as changes-is-tracked
 use Rattle.changes.proofs.pending.tracked_in.Reads as changes-tracked-in
+use Rattle.changes.proofs.table.KindFromU8.from.Reads as changes-kind-from
 use Rattle.changes.proofs.table.Standing.of.Reads as changes-of
 use Rattle.changes.proofs.table.Standing.next_move.Reads as changes-next-move
 use Rattle.changes.proofs.table.Standing.is_incoming.Reads as changes-is-incoming
@@ -144,6 +148,17 @@ pub record Sets : Type 0 where
 pub idset : Sets
 idset = search (equation, inserts, removes, unites)
 
+-- of elements of every type
+pub record Slices : Type 2 where
+  pub insert-at : (T : RattleType) (L : Laws T) (C : IsCopy T) (G : Ghosts T.Denot) (d : Dict) → SettlesLeft (idset-insert-at.Learnt T L C G d) (λ κs e. e.0.now)
+  pub remove-at : (T : RattleType) (L : Laws T) (C : IsCopy T) (G : Ghosts T.Denot) (d : Dict) → SettlesLeft (idset-remove-at.Learnt T L C G d) (λ κs e. e.0.now)
+
+pub slices : Slices
+slices = record {
+  insert-at = λ T L C G d κs a z y e f h k. (refl, equation _ _ h k);
+  remove-at = λ T L C G d κs a z y e f h k. (refl, equation _ _ h k);
+}
+
 -- ** tracker
 
 -- an answer, and the tracker that is left
@@ -161,6 +176,8 @@ pub record Trackers : Type 0 where
   pub is-blank : Settles tracker-is-blank.Learnt
   pub apply-conf : SettlesLeft tracker-apply-conf.Learnt (λ κs e. e.0.now)
   pub to-conf-state : Settles tracker-to-conf-state.Learnt
+  pub conf-state-from : Settles tracker-conf-state-from.Learnt
+  pub list-from : Settles tracker-list-from.Learnt
   pub number : Settles tracker-number.Learnt
   pub id : Settles tracker-id.Learnt
 
@@ -198,6 +215,7 @@ pub record Changes : Type 0 where
   pub contains : Settles contains_says
   pub is-tracked : Settles changes-is-tracked.Learnt
   pub tracked_in : Settles changes-tracked-in.Learnt
+  pub kind-from : Settles changes-kind-from.Learnt
   pub of : Settles changes-of.Learnt
   pub next-move : Settles changes-next-move.Learnt
   pub is-incoming : Settles changes-is-incoming.Learnt
@@ -216,6 +234,7 @@ changes = record {
   contains = search equation;
   is-tracked = search equation;
   tracked_in = search equation;
+  kind-from = search equation;
   of = search equation;
   next-move = search equation;
   is-incoming = search equation;

@@ -61,7 +61,7 @@ pub record Never13 : Type 0 where
   pub simple : (t : Tracker) (ids kinds : List ℕ) → Not13 (simple_answer t ids kinds).number
   pub enter : (t : Tracker) (auto : Bool) (ids kinds : List ℕ) → Not13 (enter_answer t auto ids kinds).number
   pub leave : (t : Tracker) → Not13 (leave_answer t).number
-  -- tracker: apply, apply_conf and applied; to_conf_state
+  -- tracker: apply_conf; to_conf_state
   pub apply : (t : Tracker) (c : Configuration) (log : ChangeLog) (n : ℕ) → Not13 (apply_of t c log n).number
   pub to-conf-state : (t : Tracker) → Not13 (written_of t).number
   -- restore

@@ -75,7 +75,7 @@ pub record RefusedUntouched (t : Tracker) : Type 0 where
       → v ≡ verdict_in (apply_of t c log n) → u ≡ (apply_of t c log n).tracker → eqb v.number 0 ≡ false → u ≡ t
   -- to_conf_state: "empty lists and a false flag"
   pub to-conf-state : eqb (written_of t).number 0 ≡ false → (written_of t).conf_state ≡ conf_state_of no_conf_state
-  -- restore, at whichever step; whole, of any outcome
+  -- restore, at whichever step; what is made whole, of any outcome
   pub restore : (cs : ConfState) (n : ℕ) → StateUntouched t (restore_of t cs n)
   pub whole : (o : Outcome) → StateUntouched t (whole_of t o)
   -- restore_step_by_step, refused with 1 or 2
