@@ -78,20 +78,34 @@ fn word(s: &State, k: usize) -> u64
 fn holds(s: &State) -> bool
     ensures { result ≡ state_holds_in s.now }
 {
-    at_most(s, AUTO_LEAVE, 1, 1, 1)
-        && at_most(s, RECORDS + RECORD_STATE, Tracker::CAPACITY, RECORD, 2)
-        && at_most(s, RECORDS + PAUSED, Tracker::CAPACITY, RECORD, 1)
-        && at_most(s, RECORDS + RECENT_ACTIVE, Tracker::CAPACITY, RECORD, 1)
+    words_at_most(s, AUTO_LEAVE, 1, 1, 1)
+        && words_at_most(s, RECORDS + RECORD_STATE, Tracker::CAPACITY, RECORD, 2)
+        && words_at_most(s, RECORDS + PAUSED, Tracker::CAPACITY, RECORD, 1)
+        && words_at_most(s, RECORDS + RECENT_ACTIVE, Tracker::CAPACITY, RECORD, 1)
 }
 
 // Whether `n` words from `k` on, `step` apart, are at most `most`. Put into its caller, where `n` and `step` are known.
 #[inline(always)]
-fn at_most(s: &State, k: usize, n: usize, step: usize, most: u64) -> bool
+fn words_at_most(s: &State, k: usize, n: usize, step: usize, most: u64) -> bool
     requires { k + n * step ≤ 4096 }
     ensures { result ≡ within_by n most step (word_in s.now) k }
 {
     for i in 0..n {
         if most < word(s, k + i * step) {
+            return false;
+        }
+    }
+    true
+}
+
+// The same of the words that `word` gives, wherever the caller reads them.
+pub fn at_most<F: Fn(usize) -> u64>(word: F, k: usize, n: usize, step: usize, most: u64) -> bool
+    requires callable { F.IsAlwaysCallable word }
+    requires room { k + n * step ≤ 4096 }
+    ensures { (f : ℕ → ℕ) → ((i r : ℕ) → F.post word i r → r ≡ f i) → result ≡ within_by n most step f k }
+{
+    for i in 0..n {
+        if most < word(k + i * step) {
             return false;
         }
     }
@@ -170,3 +184,6 @@ fn none_left(voters: &[u64], id: u64) -> bool
     }
     voters.iter().all(|voter| *voter == id)
 }
+
+#[cfg(test)]
+mod tests; // what a caller of `at_most` gets
