@@ -10,6 +10,7 @@ pub record Settled : Type 2 where
   pub invariants : lone.Invariants
   pub changes : lone.Changes
   pub calls : lone.Calls
+  pub given : lone.Given
   pub text : lent.Texts
   pub listing : lent.Listings
   pub messages : lent.Messages
@@ -25,6 +26,7 @@ all_settled =
       invariants = lone.invariants;
       changes = lone.changes;
       calls = lone.calls;
+      given = lone.given;
       text = lent.text;
       listing = lent.listing;
       messages = lent.messages;

@@ -1,6 +1,7 @@
 -- Of each public contract of the crates up to restore and unplug, two results that it allows are equal, and so is what it leaves of a value that is
 -- lent: a line for each public function. `Learnt` is Rattle's own reading of the `ensures` in src/, what a caller learns of arguments and result.
 -- Assumes nothing.
+use Prim.Native.Nat.{ℕ}
 use denote.RattleType.{RattleType}
 use denote.Param.Laws.{Laws, IsCopy}
 use mir.Syntax.{Dict}
@@ -82,6 +83,9 @@ use Rattle.restore.proofs.restore.Reads as restore-restore
 use Rattle.restore.proofs.restore_step_by_step.Reads as restore-restore-step-by-step
 use Rattle.restore.proofs.apply_answer.Reads as restore-apply-answer
 use Rattle.restore.proofs.to_conf_change_single.Reads as restore-to-conf-change-single
+use Rattle.unplug.specs.contracts.at_most as at-most
+use Rattle.unplug.specs.contracts.at_most.F-Fn as at-most-word
+use Rattle.unplug.proofs.at_most.Reads as unplug-at-most
 use Rattle.unplug.proofs.unplug.Reads as unplug-unplug
 use Rattle.demands.proofs.Walked.{contains_says, view_says}
 
@@ -281,4 +285,15 @@ calls = record {
   to-conf-change-single = λ κs a z y e d h k. equation z y h.is k.is;
   apply-answer = search leaves;
   unplug = λ κs a z y e d. unplugs z y;
+}
+
+-- ** unplug, of words that a closure gives, the same at every time
+
+pub record Given : Type 2 where
+  pub at-most : (T : RattleType) (L : Laws T) (G : at-most-word.Ghosts T) (b c d e : Dict) (f : ℕ → ℕ)
+      → Settles (λ κs a z x. ((i r : ℕ) → at-most.F-post T G b c d e a.0 i r → r ≡ f i) × unplug-at-most.Learnt T L G b c d e κs a z x)
+
+pub given : Given
+given = record {
+  at-most = λ T L G b c d e f κs a z y x w h k. equation z y (h.1 f h.0) (k.1 f k.0);
 }
